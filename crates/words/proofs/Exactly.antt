@@ -1,0 +1,57 @@
+-- A refusal is given exactly when its condition holds and none earlier does (01, 'Refusal numbers'): once, over any list of conditions.
+-- Assumes nothing.
+use mathlib.Core.Path.{_≡_, refl, sym, ap, _∙_, subst}
+use mathlib.Core.Bool.{Bool, true, false, cond}
+use mathlib.Core.List.{List, [], _∷_, _++_}
+use mathlib.Core.Logic.{_⊎_, inl, inr, _↔_}
+use Prim.Native.Nat.{ℕ}
+use native.Mathlib.Omega.{arith}
+use Rattle.words.specs.Outcome.{Outcome, drawn, refused}
+use Rattle.words.specs.Refusals.{Condition, _on_, given, First}
+
+same-number : {A : Type 0} (m n : ℕ) → _≡_ {A = Outcome A} (refused m) (refused n) → m ≡ n
+same-number m n e = cc
+
+-- the condition that holds first is given, whatever the call comes to
+pub first-given : {A : Type 0} (cs : List Condition) (o : Outcome A) (n : ℕ) → First n cs → given cs o ≡ refused n
+first-given [] o n f = absurd f
+first-given (c ∷ cs) o n (inl h) = simp (h .0) (ap refused (h .1))
+first-given (c ∷ cs) o n (inr h) = simp (h .0) (first-given cs o n (h .1))
+
+-- a refusal that is given is a condition's, or what the call comes to
+given-first : {A : Type 0} (cs : List Condition) (o : Outcome A) (n : ℕ) → given cs o ≡ refused n → First n cs ⊎ (o ≡ refused n)
+given-first [] o n e = inr e
+given-first {A} (c ∷ cs) o n e = go (given-first cs o n) (c .holds) refl e
+  where
+    past : c .holds ≡ false → First n cs ⊎ (o ≡ refused n) → First n (c ∷ cs) ⊎ (o ≡ refused n)
+    past t (inl f) = inl (inr (t, f))
+    past t (inr x) = inr x
+    go : (given cs o ≡ refused n → First n cs ⊎ (o ≡ refused n))
+        → (b : Bool) → c .holds ≡ b → cond b (refused (c .number)) (given cs o) ≡ refused n → First n (c ∷ cs) ⊎ (o ≡ refused n)
+    go rest true t x = inl (inl (t, same-number {A = A} (c .number) n x))
+    go rest false t x = past t (rest x)
+
+-- some condition of the list holds, and so one holds first
+abbrev pub SomeFirst : List Condition → Type 0
+SomeFirst cs = (n : ℕ) × First n cs
+
+-- The law. A call that comes to a refusal by itself, as a reading at the tape's end, has a condition for it on the list: `covered`.
+pub exactly : {A : Type 0} (cs : List Condition) (o : Outcome A) (covered : (n : ℕ) → o ≡ refused n → SomeFirst cs)
+    → (n : ℕ) → (given cs o ≡ refused n) ↔ First n cs
+exactly {A} cs o covered n = (λ e. go e (given-first cs o n e), first-given cs o n)
+  where
+    go : given cs o ≡ refused n → First n cs ⊎ (o ≡ refused n) → First n cs
+    go e (inl f) = f
+    go e (inr x) =
+        let s = covered n x in
+        let same : s .0 ≡ n = same-number {A = A} (s .0) n (sym (first-given cs o (s .0) (s .1)) ∙ e) in
+        subst (λ (m : ℕ). First m cs) same (s .1)
+
+-- a list has a first where its tail does
+pub some-after : (cs ds : List Condition) → SomeFirst ds → SomeFirst (cs ++ ds)
+some-after [] ds s = s
+some-after (c ∷ cs) ds s = go (some-after cs ds s) (c .holds) refl
+  where
+    go : SomeFirst (cs ++ ds) → (b : Bool) → c .holds ≡ b → SomeFirst ((c ∷ cs) ++ ds)
+    go rest true t = (c .number, inl (t, refl))
+    go rest false t = (rest .0, inr (t, rest .1))

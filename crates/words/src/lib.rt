@@ -1,0 +1,73 @@
+// What every draw shares: a word of the tape by its place, the fraction of a word, the refusals, and a draw's answer.
+ghost use mathlib.Core.Path.{_≡_};
+ghost use lib.Ieee.{binary64, isNan, ofBits};
+ghost use Rattle.words.specs.Words.{fractionOf, tooLong, wordAt};
+
+// Why a call was refused: every name of the table of refusals, in the order of its numbers.
+pub enum Refusal {
+    TapeTooLong,
+    PopulationTooLarge,
+    ProbabilityTooLarge,
+    SampleSizeTooLarge,
+    CapExceeded,
+    ModeTooHigh,
+    ThresholdOutside,
+    InvalidProbability,
+    TooRare,
+    Exhausted,
+    BookTooLong,
+    BookDamaged,
+    SerialAhead,
+    SerialReused,
+    BookFull,
+    StrikeTooMany,
+    RedrawDiffers,
+}
+
+// What a draw answers: its count and the number of words that it used, or why there is none.
+pub enum Answer {
+    Drawn { count: u64, used: usize },
+    Refused(Refusal),
+}
+
+// What stands at a place of the tape.
+pub enum Word {
+    Is(u64),
+    End,
+}
+
+// The most words that a tape may have.
+pub const MOST_WORDS: usize = 1_048_576;
+
+// Whether the tape has more words than a tape may have.
+pub fn too_long(tape: &[u64]) -> bool
+    ensures { λ r. ⌜ r ≡ tooLong (now (tape .entry)) ⌝ }
+{
+    MOST_WORDS < tape.len()
+}
+
+// The word at place i, or that the tape has ended. Every draw reads its words through this function and no other,
+// so that another kind of tape changes this function alone.
+pub fn word_at(tape: &[u64], i: usize) -> Word
+    ensures { λ r. ⌜ r ≡ wordAt (now (tape .entry)) i ⌝ }
+{
+    if i < tape.len() {
+        Word::Is(tape[i])
+    } else {
+        Word::End
+    }
+}
+
+// The fraction of a word: its upper 53 bits over 2^53. Both the cast and the division are exact.
+pub fn fraction(w: u64) -> f64
+    ensures { λ r. ⌜ r ≡ fractionOf w ⌝ }
+{
+    ((w / 2048) as f64) / 9007199254740992.0
+}
+
+// Whether 64 bits are a pattern of NaN. No float may be made of such bits, so it is asked of the pattern.
+pub fn is_nan_pattern(bits: u64) -> bool
+    ensures { λ r. ⌜ r ≡ isNan (ofBits binary64 bits) ⌝ }
+{
+    0x7ff0_0000_0000_0000 < bits % 0x8000_0000_0000_0000
+}
