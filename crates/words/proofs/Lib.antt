@@ -1,7 +1,9 @@
 pub mod Fractions
+pub mod Patterns
 pub mod Tape
 pub mod Reading
 pub mod Locality
+pub mod Keeping
 pub mod Exactly
 pub mod Drawing
 pub mod OneAnswer

@@ -9,7 +9,7 @@ use lib.Seq.{drop-cons}
 use Rattle.words.specs.declared.Word.the-variants.{Is, End}
 use Rattle.words.specs.Words.{wordAt}
 use Rattle.words.specs.Outcome.{drawn, refused}
-use Rattle.words.specs.Rule.{Step, done, more, Rule, read}
+use Rattle.words.specs.Rule.{Step, done, more, Rule, read, reading}
 use Rattle.words.proofs.Tape.{word-there, word-missing}
 
 -- a refusal is no draw
@@ -50,3 +50,11 @@ module _ {S A : Type 0} (r : Rule S A) where
   refused-from [] (more s) u n e = (s, cc)
   refused-from (w ∷ ws) (done d) u n e = refused-not-drawn n d u (sym e)
   refused-from (w ∷ ws) (more s) u n e = refused-from ws (r .step s w) (suc u) n e
+
+  -- a reading uses at most the words that there are
+  pub reading-used : (ws : List ℕ) (a : A) (u : ℕ) → reading r ws ≡ drawn a u → u ≤ length ws
+  reading-used ws a u e = let h = used-from ws (r .start) 0 a u e in omega arith
+
+  -- a rule that refuses every short tape by one number is refused by that number alone
+  pub reading-short : (k : ℕ) → ((s : S) → r .short s ≡ k) → (ws : List ℕ) (n : ℕ) → reading r ws ≡ refused n → n ≡ k
+  reading-short k short ws n e = let s = refused-from ws (r .start) 0 n e in sym (s .1) ∙ short (s .0)

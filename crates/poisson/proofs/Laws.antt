@@ -1,0 +1,89 @@
+-- Laws of the Poisson draw: what 01 says of module 2 beside the rule itself. Assumes nothing.
+use mathlib.Core.Path.{_≡_, refl, sym, ap, ap₂, _∙_}
+use mathlib.Core.Bool.{true, false}
+use mathlib.Core.List.{List}
+use mathlib.Core.Logic.{_↔_}
+use Prim.Native.Nat.{ℕ, zero, suc, _+_, _≤_, _<_}
+use native.Mathlib.Numerals.{add-one}
+use native.Mathlib.Omega.{arith}
+use borrow.Author.Count.{below-none, below-more}
+use lib.ListN.{length, take, getD}
+use lib.Ieee.{Float, binary64, mul, lt}
+use Rattle.words.specs.Words.{mostWords, fractionOf}
+use Rattle.words.specs.Outcome.{drawn, refused}
+use Rattle.words.specs.Rule.{done, more, reading}
+use Rattle.words.specs.Refusals.{First}
+use Rattle.words.specs.Draw.{refusals}
+use Rattle.words.proofs.Reading.{reading-used, reading-short}
+use Rattle.words.proofs.Keeping.{After, after-cond, reading-keeps}
+use Rattle.words.proofs.Locality.{reading-local}
+use Rattle.words.proofs.Drawing.{accepted-within, accepted-reading, draw-exactly, draw-local}
+use Rattle.poisson.specs.Poisson.{Product, none, product, whileAbove, knuthMethod, thresholdRefusals, poisson}
+
+-- the product of the first n + 1 fractions, multiplied in order
+unfoldable pub productOf : List ℕ → ℕ → Float
+productOf ws zero = fractionOf (getD ws 0 0)
+productOf ws (suc n) = mul binary64 (productOf ws n) (fractionOf (getD ws (suc n) 0))
+
+module _ (T : Float) (ws : List ℕ) where
+  -- each refusal is given exactly on its condition, none earlier holding
+  pub poisson-exactly : (n : ℕ) → (poisson T ws ≡ refused n) ↔ First n (refusals ws (thresholdRefusals T) (reading (knuthMethod T) ws))
+  unfolding poisson
+  poisson-exactly = draw-exactly ws (thresholdRefusals T) (reading (knuthMethod T) ws) (reading-short (knuthMethod T) 10 (λ s. refl) ws)
+
+  -- every product up to the nth was above T
+  Above : ℕ → Type 0
+  Above n = (i : ℕ) → i < n → lt T (productOf ws i) ≡ true
+
+  -- The count is the number of multiplications: every product before the last was above T, and the last is not. Used is count + 1.
+  pub record Knuth (c u : ℕ) : Type 0 where
+    pub used : u ≡ c + 1
+    pub above : (i : ℕ) → i < c → lt T (productOf ws i) ≡ true
+    pub last : lt T (productOf ws c) ≡ false
+
+  -- what each multiplication keeps
+  Multiplied : Product → ℕ → Type 0
+  Multiplied none u = u ≡ 0
+  Multiplied (product p n) u = (u ≡ n + 1) × (p ≡ productOf ws n) × Above (n + 1)
+
+  judged : (p : Float) (n u : ℕ) → u ≡ n → p ≡ productOf ws n → Above n → After Multiplied Knuth (whileAbove T p n) (suc u)
+  unfolding Multiplied Above
+  judged p n u e same above = after-cond Multiplied Knuth (lt T p) (more (product p n)) (done n) (suc u) up stop
+    where
+      up : lt T p ≡ true → Multiplied (product p n) (suc u)
+      up t = (omega arith, same, below-more (λ (i : ℕ). lt T (productOf ws i) ≡ true) n above (ap (lt T) (sym same) ∙ t))
+      stop : lt T p ≡ false → Knuth n (suc u)
+      stop t = record { used = omega arith; above = above; last = ap (lt T) (sym same) ∙ t }
+
+  next : (n u : ℕ) (p : Float) → u ≡ n + 1 → p ≡ productOf ws n → mul binary64 p (fractionOf (getD ws u 0)) ≡ productOf ws (n + 1)
+  unfolding productOf
+  next n u p e same =
+      ap₂ (λ (x : Float) (i : ℕ). mul binary64 x (fractionOf (getD ws i 0))) same (e ∙ add-one n) ∙ ap (productOf ws) (sym (add-one n))
+
+  keeps : (s : Product) (u : ℕ) → u < length ws → Multiplied s u → After Multiplied Knuth (knuthMethod T .step s (getD ws u 0)) (suc u)
+  unfolding Multiplied Above productOf
+  keeps none u h e = judged (fractionOf (getD ws u 0)) 0 u e (ap (λ (i : ℕ). fractionOf (getD ws i 0)) e) (below-none (λ (i : ℕ). lt T (productOf ws i) ≡ true))
+  keeps (product p n) u h k = judged (mul binary64 p (fractionOf (getD ws u 0))) (n + 1) u (k .0) (next n u p (k .0) (k .1)) (k .2)
+
+  module _ (c u : ℕ) (e : poisson T ws ≡ drawn c u) where
+    pub poisson-knuth : Knuth c u
+    unfolding poisson Multiplied
+    poisson-knuth = reading-keeps (knuthMethod T) ws Multiplied Knuth keeps refl c u (accepted-reading ws (thresholdRefusals T) (reading (knuthMethod T) ws) c u e)
+
+    -- used is count + 1
+    pub poisson-used : u ≡ c + 1
+    poisson-used = poisson-knuth .used
+
+    pub poisson-bounds : (u ≤ mostWords) × (c < mostWords)
+    unfolding poisson
+    poisson-bounds =
+        let o = reading (knuthMethod T) ws in
+        let k = accepted-within ws (thresholdRefusals T) o c u e in
+        let r = reading-used (knuthMethod T) ws c u (accepted-reading ws (thresholdRefusals T) o c u e) in
+        let s = poisson-used in
+        (omega arith, omega arith)
+
+    -- it looks at the words that it reports as used and at no others
+    pub poisson-local : (vs : List ℕ) → length vs ≤ mostWords → take u ws ≡ take u vs → poisson T vs ≡ drawn c u
+    unfolding poisson
+    poisson-local vs h same = draw-local (reading (knuthMethod T)) (reading-local (knuthMethod T)) (thresholdRefusals T) ws vs c u h e same

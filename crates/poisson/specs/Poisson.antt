@@ -1,0 +1,41 @@
+-- 01, module 2: KnuthMethod, with the threshold handed in. Assumes nothing.
+use Prim.Native.Nat.{ℕ, _+_, _^_}
+use mathlib.Core.Bool.{Bool, false, not, _&&_, cond}
+use mathlib.Core.List.{List, [], _∷_}
+use lib.Ieee.{Float, binary64, round, mul, lt, le}
+use Rattle.words.specs.Words.{fractionOf}
+use Rattle.words.specs.Outcome.{Outcome}
+use Rattle.words.specs.Rule.{Step, done, more, Rule, read, reading}
+use Rattle.words.specs.Refusals.{Condition, _on_}
+use Rattle.words.specs.Draw.{draw}
+
+-- before the first fraction; then the product p after n multiplications
+pub data Product : Type 0 where
+  none : Product
+  product : Float → ℕ → Product
+
+-- while the product is above T it wants another fraction; the count is the number of multiplications
+abbrev pub whileAbove : Float → Float → ℕ → Step Product ℕ
+whileAbove T p n = cond (lt T p) (more (product p n)) (done n)
+
+-- the product starts as the first fraction, and is multiplied by each next one
+abbrev pub multiply : Float → Product → ℕ → Step Product ℕ
+multiply T none w = whileAbove T (fractionOf w) 0
+multiply T (product p n) w = whileAbove T (mul binary64 p (fractionOf w)) (n + 1)
+
+abbrev pub knuthMethod : Float → Rule Product ℕ
+knuthMethod T = record { start = more none; step = multiply T; short = λ s. 10 }
+
+-- 2^-18 ≤ T ≤ 1; a NaN is not
+unfoldable pub inRange : Float → Bool
+unfolding round le
+inRange T = le (round binary64 false 1 (2 ^ 18)) T && le T (round binary64 false 1 1)
+
+-- the parameter's refusal: ThresholdOutside
+abbrev pub thresholdRefusals : Float → List Condition
+thresholdRefusals T = 7 on not (inRange T) ∷ []
+
+-- the draw with the threshold T over the words ws
+unfoldable pub poisson : Float → List ℕ → Outcome ℕ
+unfolding read
+poisson T ws = draw ws (thresholdRefusals T) (reading (knuthMethod T) ws)
