@@ -1,0 +1,94 @@
+-- `geometric::sample_trivial` meets its contract. The loop's invariant: reading on from here, with this many failures, gives what the
+-- whole reading gives. Assumes nothing.
+use borrow.Author.Needs.{needs}
+use mathlib.Core.Path.{_≡_, refl, sym, _∙_}
+use Prim.Native.Nat.{_≤_, _-_, zero-le}
+use native.Mathlib.Omega.{arith}
+use lib.ListN.{length, drop}
+use Rattle.words.specs.declared.Word.the-variants.{Is}
+use Rattle.words.specs.Words.{wordAt}
+use Rattle.words.specs.Rule.{more, read, reading}
+use Rattle.words.proofs.Tape.{word-there}
+use Rattle.words.proofs.Reading.{read-done, read-at, read-end}
+use Rattle.geometric.specs.Geometric.{trivial}
+use Rattle.geometric.proofs.sample_trivial.Statement.{statement}
+use Rattle.geometric.proofs.sample_trivial.Tie as tie
+
+abbrev Inv-loop : tie.InvT-loop
+Inv-loop tape p failures₀ failures = (failures ≤ length tape) × (reading (trivial p) tape ≡ read (trivial p) (drop failures tape) (more failures) failures)
+
+abbrev μ-loop : tie.MeasureT-loop
+μ-loop tape p failures₀ failures = length tape - failures
+
+loop-holds : tie.Need-loop-holds Inv-loop μ-loop
+loop-holds c = (zero-le, refl)
+
+word-at-requires : tie.Need-word-at-requires Inv-loop μ-loop
+word-at-requires c κs = search needs
+
+enum-known-w : tie.Need-enum-known-w Inv-loop μ-loop
+enum-known-w c = search needs
+
+enum-told : tie.Need-enum-told Inv-loop μ-loop
+enum-told c = search needs
+
+returns : tie.Need-returns Inv-loop μ-loop
+returns c =
+    let l = c .before .before .before .loop in
+    let a = c .before .before .before .before .before .args in
+    sym (l .inv .1 ∙ read-end (trivial (a .p)) (a .tape .now) (l .failures) (l .failures) (l .failures) (sym (c .before .before .word-at .ensures) ∙ c .enum-told .given .1))
+
+fraction-requires : tie.Need-fraction-requires Inv-loop μ-loop
+fraction-requires c κs = search needs
+
+-- the word that a turn reads
+there : (c : tie.After-known-told Inv-loop μ-loop) → wordAt (c .before .before .before .before .before .before .args .tape .now) (c .before .before .before .before .loop .failures) ≡ Is (c .before .w .given .0 .0)
+there c = sym (c .before .before .before .word-at .ensures) ∙ c .before .w .given .1
+
+add-t10 : tie.Need-add-t10 Inv-loop μ-loop
+add-t10 c = search needs
+
+returns-2 : tie.Need-returns-2 Inv-loop μ-loop
+returns-2 c =
+    let k = c .before .before in
+    let l = k .before .before .before .before .loop in
+    let a = k .before .before .before .before .before .before .args in
+    sym (l .inv .1 ∙ read-at (trivial (a .p)) (a .tape .now) (l .failures) (k .before .w .given .0 .0) (l .failures) (l .failures) (there k)
+    ∙ simp (← c .before .fraction .ensures, c .if1 .taken, read-done (trivial (a .p))))
+
+add-failures : tie.Need-add-failures Inv-loop μ-loop
+add-failures c = search needs
+
+loop-less : tie.Need-loop-less Inv-loop μ-loop
+loop-less c =
+    let k = c .before .before in
+    let h = word-there _ _ _ (there k) .0 in omega arith
+
+loop-again : tie.Need-loop-again Inv-loop μ-loop
+loop-again c =
+    let k = c .before .before in
+    let l = k .before .before .before .before .loop in
+    let a = k .before .before .before .before .before .before .args in
+    let h = word-there (a .tape .now) (l .failures) (k .before .w .given .0 .0) (there k) .0 in (
+      omega arith,
+      l .inv .1 ∙ read-at (trivial (a .p)) (a .tape .now) (l .failures) (k .before .w .given .0 .0) (l .failures) (l .failures) (there k)
+          ∙ simp (← c .before .fraction .ensures, c .if1 .left),
+    )
+
+pub sample-trivial-spec : {M : Type 1} → statement M
+sample-trivial-spec =
+    tie.close
+    (tie.spec
+    Inv-loop
+    μ-loop
+    loop-holds
+    word-at-requires
+    enum-known-w
+    enum-told
+    returns
+    fraction-requires
+    add-t10
+    returns-2
+    add-failures
+    loop-less
+    loop-again)

@@ -1,0 +1,4 @@
+pub mod Power
+pub mod Squares
+pub mod Geometric
+pub mod Standard

@@ -1,0 +1,21 @@
+-- 01, module 1: StandardGeometric. Assumes nothing.
+use Prim.Native.Nat.{ℕ, _+_}
+use mathlib.Core.Bool.{cond}
+use mathlib.Core.List.{List, []}
+use lib.Dec.{eqb}
+use lib.Count.{leadingZeros}
+use Rattle.words.specs.Outcome.{Outcome}
+use Rattle.words.specs.Rule.{Step, done, more, Rule, read, reading}
+use Rattle.words.specs.Draw.{draw}
+
+-- the leading zeros of each word read are added to n; the first word that isn't 0 is the last
+abbrev pub addZeros : ℕ → ℕ → Step ℕ ℕ
+addZeros n w = cond (eqb w 0) (more (n + leadingZeros 64 w)) (done (n + leadingZeros 64 w))
+
+abbrev pub standard : Rule ℕ ℕ
+standard = record { start = more 0; step = addZeros; short = λ s. 10 }
+
+-- the draw over the words ws; it has no parameters
+unfoldable pub standardGeometric : List ℕ → Outcome ℕ
+unfolding read leadingZeros
+standardGeometric ws = draw ws [] (reading standard ws)
