@@ -32,8 +32,8 @@ unfolding eq qOf
 isNever p = eq (qOf p) (whole 1)
 
 -- p ≥ 2/3: fractions above p are counted until one is at most p
-abbrev pub trivial : Float → Rule ℕ ℕ
-trivial p = record { start = more 0; step = λ n w. cond (le (fractionOf w) p) (done n) (more (n + 1)); short = λ s. 10 }
+abbrev pub trivialRule : Float → Rule ℕ ℕ
+trivialRule p = record { start = more 0; step = λ n w. cond (le (fractionOf w) p) (done n) (more (n + 1)); short = λ s. 10 }
 
 -- p < 2/3: what the next word is for
 pub data Search : Type 0 where
@@ -48,18 +48,18 @@ searching q span pi (firstRun d) w = cond (lt (fractionOf w) pi) (more (firstRun
 searching q span pi (remainderWord d) w = more (acceptance d (w % span))
 searching q span pi (acceptance d m) w = cond (lt (fractionOf w) (power q m)) (done (d * span + m)) (more (remainderWord d))
 
-abbrev pub search : Float → ℕ → Float → Rule Search ℕ
-search q span pi = record { start = more (firstRun 0); step = searching q span pi; short = λ s. 10 }
+abbrev pub searchRule : Float → ℕ → Float → Rule Search ℕ
+searchRule q span pi = record { start = more (firstRun 0); step = searching q span pi; short = λ s. 10 }
 
 -- what a probability reads
 unfoldable pub geometricReading : Float → List ℕ → Outcome ℕ
 unfolding read isLarge isNever qOf squares powerOf
 geometricReading p ws =
     cond (isLarge p)
-    (reading (trivial p) ws)
+    (reading (trivialRule p) ws)
     (cond (isNever p)
     (drawn (2 ^ 64 - 1) 0)
-    (reading (search (qOf p) (2 ^ squares (qOf p) .k) (squares (qOf p) .pi)) ws))
+    (reading (searchRule (qOf p) (2 ^ squares (qOf p) .k) (squares (qOf p) .pi)) ws))
 
 -- 31 squarings leave it above 0.5
 unfoldable pub isTooRare : Float → Bool

@@ -12,10 +12,10 @@ use Rattle.words.specs.Draw.{draw}
 abbrev pub addZeros : ℕ → ℕ → Step ℕ ℕ
 addZeros n w = cond (eqb w 0) (more (n + leadingZeros 64 w)) (done (n + leadingZeros 64 w))
 
-abbrev pub standard : Rule ℕ ℕ
-standard = record { start = more 0; step = addZeros; short = λ s. 10 }
+abbrev pub standardRule : Rule ℕ ℕ
+standardRule = record { start = more 0; step = addZeros; short = λ s. 10 }
 
 -- the draw over the words ws; it has no parameters
 unfoldable pub standardGeometric : List ℕ → Outcome ℕ
 unfolding read leadingZeros
-standardGeometric ws = draw ws [] (reading standard ws)
+standardGeometric ws = draw ws [] (reading standardRule ws)

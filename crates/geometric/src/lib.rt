@@ -13,7 +13,7 @@ ghost use Rattle.words.specs.Refusals.{_on_, given};
 ghost use Rattle.words.specs.Paper.{paper};
 ghost use Rattle.geometric.specs.Power.{powerOf};
 ghost use Rattle.geometric.specs.Squares.{squares};
-ghost use Rattle.geometric.specs.Geometric.{trivial, search, remainderWord, geometricReading, isTooRare, geometric};
+ghost use Rattle.geometric.specs.Geometric.{trivialRule, searchRule, remainderWord, geometricReading, isTooRare, geometric};
 ghost use Rattle.geometric.specs.Standard.{standardGeometric};
 
 // The geometric draw: failures before the first success of probability p.
@@ -68,7 +68,7 @@ fn sample_valid(tape: &[u64], p: f64) -> Answer
 
 // The trivial algorithm: fractions above p are failures, until one is not.
 fn sample_trivial(tape: &[u64], p: f64) -> Answer
-    ensures { λ r. ⌜ paper r ≡ reading (trivial p) (now (tape .entry)) ⌝ }
+    ensures { λ r. ⌜ paper r ≡ reading (trivialRule p) (now (tape .entry)) ⌝ }
 {
     let mut failures: usize = 0;
     loop {
@@ -109,7 +109,7 @@ fn square(q: f64) -> Squared
 // d by the trivial algorithm from pi, and then the remainder.
 fn sample_search(tape: &[u64], q: f64, span: u64, pi: f64) -> Answer
     requires { ⌜ (0 < span) × (span ≤ 2 ^ 31) × (length (now tape) ≤ mostWords) ⌝ }
-    ensures { λ r. ⌜ paper r ≡ reading (search q span pi) (now (tape .entry)) ⌝ }
+    ensures { λ r. ⌜ paper r ≡ reading (searchRule q span pi) (now (tape .entry)) ⌝ }
 {
     let mut d: usize = 0;
     loop {
@@ -127,7 +127,7 @@ fn sample_search(tape: &[u64], q: f64, span: u64, pi: f64) -> Answer
 // The search for the remainder, from the place at on: m is any number below span, taken with probability q^m.
 fn sample_remainder(tape: &[u64], q: f64, span: u64, d: u64, at: usize) -> Answer
     requires { ⌜ (0 < span) × (span ≤ 2 ^ 31) × (d ≤ mostWords) ⌝ }
-    ensures { λ r. ⌜ ((pi : Float) → paper r ≡ read (search q span pi) (drop at (now (tape .entry))) (more (remainderWord d)) at) ⌝ }
+    ensures { λ r. ⌜ ((pi : Float) → paper r ≡ read (searchRule q span pi) (drop at (now (tape .entry))) (more (remainderWord d)) at) ⌝ }
 {
     let mut i = at;
     let m = loop {

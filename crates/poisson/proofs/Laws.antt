@@ -18,7 +18,7 @@ use Rattle.words.proofs.Reading.{reading-used, reading-short}
 use Rattle.words.proofs.Keeping.{After, after-cond, reading-keeps}
 use Rattle.words.proofs.Locality.{reading-local}
 use Rattle.words.proofs.Drawing.{accepted-within, accepted-reading, draw-exactly, draw-local}
-use Rattle.poisson.specs.Poisson.{Product, none, product, whileAbove, knuthMethod, thresholdRefusals, poisson}
+use Rattle.poisson.specs.Poisson.{Product, none, product, whileAbove, knuthRule, thresholdRefusals, poisson}
 
 -- the product of the first n + 1 fractions, multiplied in order
 unfoldable pub productOf : List ℕ → ℕ → Float
@@ -27,9 +27,9 @@ productOf ws (suc n) = mul binary64 (productOf ws n) (fractionOf (getD ws (suc n
 
 module _ (T : Float) (ws : List ℕ) where
   -- each refusal is given exactly on its condition, none earlier holding
-  pub poisson-exactly : (n : ℕ) → (poisson T ws ≡ refused n) ↔ First n (refusals ws (thresholdRefusals T) (reading (knuthMethod T) ws))
+  pub poisson-exactly : (n : ℕ) → (poisson T ws ≡ refused n) ↔ First n (refusals ws (thresholdRefusals T) (reading (knuthRule T) ws))
   unfolding poisson
-  poisson-exactly = draw-exactly ws (thresholdRefusals T) (reading (knuthMethod T) ws) (reading-short (knuthMethod T) 10 (λ s. refl) ws)
+  poisson-exactly = draw-exactly ws (thresholdRefusals T) (reading (knuthRule T) ws) (reading-short (knuthRule T) 10 (λ s. refl) ws)
 
   -- every product up to the nth was above T
   Above : ℕ → Type 0
@@ -60,7 +60,7 @@ module _ (T : Float) (ws : List ℕ) where
   next n u p e same =
       ap₂ (λ (x : Float) (i : ℕ). mul binary64 x (fractionOf (getD ws i 0))) same (e ∙ add-one n) ∙ ap (productOf ws) (sym (add-one n))
 
-  keeps : (s : Product) (u : ℕ) → u < length ws → Multiplied s u → After Multiplied Knuth (knuthMethod T .step s (getD ws u 0)) (suc u)
+  keeps : (s : Product) (u : ℕ) → u < length ws → Multiplied s u → After Multiplied Knuth (knuthRule T .step s (getD ws u 0)) (suc u)
   unfolding Multiplied Above productOf
   keeps none u h e = judged (fractionOf (getD ws u 0)) 0 u e (ap (λ (i : ℕ). fractionOf (getD ws i 0)) e) (below-none (λ (i : ℕ). lt T (productOf ws i) ≡ true))
   keeps (product p n) u h k = judged (mul binary64 p (fractionOf (getD ws u 0))) (n + 1) u (k .0) (next n u p (k .0) (k .1)) (k .2)
@@ -68,7 +68,7 @@ module _ (T : Float) (ws : List ℕ) where
   module _ (c u : ℕ) (e : poisson T ws ≡ drawn c u) where
     pub poisson-knuth : Knuth c u
     unfolding poisson Multiplied
-    poisson-knuth = reading-keeps (knuthMethod T) ws Multiplied Knuth keeps refl c u (accepted-reading ws (thresholdRefusals T) (reading (knuthMethod T) ws) c u e)
+    poisson-knuth = reading-keeps (knuthRule T) ws Multiplied Knuth keeps refl c u (accepted-reading ws (thresholdRefusals T) (reading (knuthRule T) ws) c u e)
 
     -- used is count + 1
     pub poisson-used : u ≡ c + 1
@@ -77,13 +77,13 @@ module _ (T : Float) (ws : List ℕ) where
     pub poisson-bounds : (u ≤ mostWords) × (c < mostWords)
     unfolding poisson
     poisson-bounds =
-        let o = reading (knuthMethod T) ws in
+        let o = reading (knuthRule T) ws in
         let k = accepted-within ws (thresholdRefusals T) o c u e in
-        let r = reading-used (knuthMethod T) ws c u (accepted-reading ws (thresholdRefusals T) o c u e) in
+        let r = reading-used (knuthRule T) ws c u (accepted-reading ws (thresholdRefusals T) o c u e) in
         let s = poisson-used in
         (omega arith, omega arith)
 
     -- it looks at the words that it reports as used and at no others
     pub poisson-local : (vs : List ℕ) → length vs ≤ mostWords → take u ws ≡ take u vs → poisson T vs ≡ drawn c u
     unfolding poisson
-    poisson-local vs h same = draw-local (reading (knuthMethod T)) (reading-local (knuthMethod T)) (thresholdRefusals T) ws vs c u h e same
+    poisson-local vs h same = draw-local (reading (knuthRule T)) (reading-local (knuthRule T)) (thresholdRefusals T) ws vs c u h e same

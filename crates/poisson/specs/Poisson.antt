@@ -23,8 +23,8 @@ abbrev pub multiply : Float → Product → ℕ → Step Product ℕ
 multiply T none w = whileAbove T (fractionOf w) 0
 multiply T (product p n) w = whileAbove T (mul binary64 p (fractionOf w)) (n + 1)
 
-abbrev pub knuthMethod : Float → Rule Product ℕ
-knuthMethod T = record { start = more none; step = multiply T; short = λ s. 10 }
+abbrev pub knuthRule : Float → Rule Product ℕ
+knuthRule T = record { start = more none; step = multiply T; short = λ s. 10 }
 
 -- 2^-18 ≤ T ≤ 1; a NaN is not
 unfoldable pub inRange : Float → Bool
@@ -38,4 +38,4 @@ thresholdRefusals T = 7 on not (inRange T) ∷ []
 -- the draw with the threshold T over the words ws
 unfoldable pub poisson : Float → List ℕ → Outcome ℕ
 unfolding read
-poisson T ws = draw ws (thresholdRefusals T) (reading (knuthMethod T) ws)
+poisson T ws = draw ws (thresholdRefusals T) (reading (knuthRule T) ws)

@@ -10,7 +10,7 @@ ghost use lib.Ieee.{binary64, ofBits};
 ghost use Rattle.words.specs.Words.{mostWords};
 ghost use Rattle.words.specs.Rule.{reading};
 ghost use Rattle.words.specs.Paper.{paper};
-ghost use Rattle.poisson.specs.Poisson.{knuthMethod, poisson};
+ghost use Rattle.poisson.specs.Poisson.{knuthRule, poisson};
 
 // The Poisson draw with the threshold exp_lambda, which is e^-lambda or any other number in the range.
 pub fn sample(tape: &[u64], exp_lambda: f64) -> Answer
@@ -42,7 +42,7 @@ pub fn sample_bits(tape: &[u64], exp_lambda: u64) -> Answer
 
 // The product starts as the first fraction, and takes another while it is above the threshold; result counts those.
 fn knuth_method(tape: &[u64], exp_lambda: f64) -> Answer
-    ensures { λ r. ⌜ paper r ≡ reading (knuthMethod «exp_lambda») (now (tape .entry)) ⌝ }
+    ensures { λ r. ⌜ paper r ≡ reading (knuthRule «exp_lambda») (now (tape .entry)) ⌝ }
 {
     let Word::Is(first) = words::word_at(tape, 0) else {
         return Answer::Refused(Refusal::Exhausted);

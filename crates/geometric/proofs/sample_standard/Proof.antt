@@ -13,13 +13,13 @@ use Rattle.words.specs.Rule.{more, read, reading}
 use Rattle.words.proofs.Tape.{within-limit, word-there}
 use Rattle.words.proofs.Reading.{read-done, read-at, read-end}
 use Rattle.words.proofs.Drawing.{ends-same}
-use Rattle.geometric.specs.Standard.{standard, standardGeometric}
+use Rattle.geometric.specs.Standard.{standardRule, standardGeometric}
 use Rattle.geometric.proofs.Zeros.{fewer-zeros, all-zeros}
 use Rattle.geometric.proofs.sample_standard.Statement.{statement}
 use Rattle.geometric.proofs.sample_standard.Tie as tie
 
 abbrev Inv-loop : tie.InvT-loop
-Inv-loop tape result₀ i₀ result i = (i ≤ length tape) × (length tape ≤ mostWords) × (result ≡ 64 * i) × (standardGeometric tape ≡ read standard (drop i tape) (more result) i)
+Inv-loop tape result₀ i₀ result i = (i ≤ length tape) × (length tape ≤ mostWords) × (result ≡ 64 * i) × (standardGeometric tape ≡ read standardRule (drop i tape) (more result) i)
 
 abbrev μ-loop : tie.MeasureT-loop
 μ-loop tape result₀ i₀ result i = length tape - i
@@ -36,7 +36,7 @@ unfolding standardGeometric
 loop-holds c =
     let ws = c .before .before .before .args .tape .now in
     let e = sym (c .before .too-long .ensures) ∙ c .if1 .left in
-    (zero-le, within-limit ws e, refl, simp e (ends-same (reading standard ws)))
+    (zero-le, within-limit ws e, refl, simp e (ends-same (reading standardRule ws)))
 
 word-at-requires : tie.Need-word-at-requires Inv-loop μ-loop
 word-at-requires c κs = search needs
@@ -51,7 +51,7 @@ returns-2 : tie.Need-returns-2 Inv-loop μ-loop
 returns-2 c =
     let l = c .before .before .before .loop in
     let ws = c .before .before .before .before .before .before .before .args .tape .now in
-    sym (l .inv .3 ∙ read-end standard ws (l .i) (l .result) (l .i) (sym (c .before .before .word-at .ensures) ∙ c .enum-told .given .1))
+    sym (l .inv .3 ∙ read-end standardRule ws (l .i) (l .result) (l .i) (sym (c .before .before .word-at .ensures) ∙ c .enum-told .given .1))
 
 cast-x : tie.Need-cast-x Inv-loop μ-loop
 cast-x c = omega (arith, leading-le 64 (c .before .w .given .0 .0))
@@ -74,7 +74,7 @@ returns-3 c =
     let k = c .before in
     let l = k .before .before .before .before .loop in
     let w = k .before .w .given .0 .0 in
-    sym (l .inv .3 ∙ read-at standard _ (l .i) w (l .result) (l .i) (there k) ∙ simp (ne-eqb w 0 (fewer-zeros w (c .if2 .taken)), read-done standard))
+    sym (l .inv .3 ∙ read-at standardRule _ (l .i) w (l .result) (l .i) (there k) ∙ simp (ne-eqb w 0 (fewer-zeros w (c .if2 .taken)), read-done standardRule))
 
 loop-less : tie.Need-loop-less Inv-loop μ-loop
 loop-less c = let h = word-there _ _ _ (there (c .before)) .0 in omega arith
@@ -90,7 +90,7 @@ loop-again c =
       omega arith,
       l .inv .1,
       omega arith,
-      l .inv .3 ∙ read-at standard _ (l .i) w (l .result) (l .i) (there k) ∙ simp (eq-eqb w 0 z),
+      l .inv .3 ∙ read-at standardRule _ (l .i) w (l .result) (l .i) (there k) ∙ simp (eq-eqb w 0 z),
     )
 
 pub sample-standard-spec : {M : Type 1} → statement M

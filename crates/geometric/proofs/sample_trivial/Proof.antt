@@ -10,12 +10,12 @@ use Rattle.words.specs.Words.{wordAt}
 use Rattle.words.specs.Rule.{more, read, reading}
 use Rattle.words.proofs.Tape.{word-there}
 use Rattle.words.proofs.Reading.{read-done, read-at, read-end}
-use Rattle.geometric.specs.Geometric.{trivial}
+use Rattle.geometric.specs.Geometric.{trivialRule}
 use Rattle.geometric.proofs.sample_trivial.Statement.{statement}
 use Rattle.geometric.proofs.sample_trivial.Tie as tie
 
 abbrev Inv-loop : tie.InvT-loop
-Inv-loop tape p failures₀ failures = (failures ≤ length tape) × (reading (trivial p) tape ≡ read (trivial p) (drop failures tape) (more failures) failures)
+Inv-loop tape p failures₀ failures = (failures ≤ length tape) × (reading (trivialRule p) tape ≡ read (trivialRule p) (drop failures tape) (more failures) failures)
 
 abbrev μ-loop : tie.MeasureT-loop
 μ-loop tape p failures₀ failures = length tape - failures
@@ -36,7 +36,7 @@ returns : tie.Need-returns Inv-loop μ-loop
 returns c =
     let l = c .before .before .before .loop in
     let a = c .before .before .before .before .before .args in
-    sym (l .inv .1 ∙ read-end (trivial (a .p)) (a .tape .now) (l .failures) (l .failures) (l .failures) (sym (c .before .before .word-at .ensures) ∙ c .enum-told .given .1))
+    sym (l .inv .1 ∙ read-end (trivialRule (a .p)) (a .tape .now) (l .failures) (l .failures) (l .failures) (sym (c .before .before .word-at .ensures) ∙ c .enum-told .given .1))
 
 fraction-requires : tie.Need-fraction-requires Inv-loop μ-loop
 fraction-requires c κs = search needs
@@ -53,8 +53,8 @@ returns-2 c =
     let k = c .before .before in
     let l = k .before .before .before .before .loop in
     let a = k .before .before .before .before .before .before .args in
-    sym (l .inv .1 ∙ read-at (trivial (a .p)) (a .tape .now) (l .failures) (k .before .w .given .0 .0) (l .failures) (l .failures) (there k)
-    ∙ simp (← c .before .fraction .ensures, c .if1 .taken, read-done (trivial (a .p))))
+    sym (l .inv .1 ∙ read-at (trivialRule (a .p)) (a .tape .now) (l .failures) (k .before .w .given .0 .0) (l .failures) (l .failures) (there k)
+    ∙ simp (← c .before .fraction .ensures, c .if1 .taken, read-done (trivialRule (a .p))))
 
 add-failures : tie.Need-add-failures Inv-loop μ-loop
 add-failures c = search needs
@@ -71,7 +71,7 @@ loop-again c =
     let a = k .before .before .before .before .before .before .args in
     let h = word-there (a .tape .now) (l .failures) (k .before .w .given .0 .0) (there k) .0 in (
       omega arith,
-      l .inv .1 ∙ read-at (trivial (a .p)) (a .tape .now) (l .failures) (k .before .w .given .0 .0) (l .failures) (l .failures) (there k)
+      l .inv .1 ∙ read-at (trivialRule (a .p)) (a .tape .now) (l .failures) (k .before .w .given .0 .0) (l .failures) (l .failures) (there k)
           ∙ simp (← c .before .fraction .ensures, c .if1 .left),
     )
 

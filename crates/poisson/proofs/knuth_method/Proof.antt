@@ -8,13 +8,13 @@ use lib.ListN.{length, drop}
 use Rattle.words.specs.Rule.{read, reading}
 use Rattle.words.proofs.Tape.{word-there}
 use Rattle.words.proofs.Reading.{read-done, read-at, read-end}
-use Rattle.poisson.specs.Poisson.{none, product, whileAbove, knuthMethod}
+use Rattle.poisson.specs.Poisson.{none, product, whileAbove, knuthRule}
 use Rattle.poisson.proofs.knuth_method.Statement.{statement}
 use Rattle.poisson.proofs.knuth_method.Tie as tie
 
 abbrev Inv-loop : tie.InvT-loop
 Inv-loop tape T first result₀ p₀ result p =
-    (result < length tape) × (reading (knuthMethod T) tape ≡ read (knuthMethod T) (drop (result + 1) tape) (whileAbove T p result) (result + 1))
+    (result < length tape) × (reading (knuthRule T) tape ≡ read (knuthRule T) (drop (result + 1) tape) (whileAbove T p result) (result + 1))
 
 abbrev μ-loop : tie.MeasureT-loop
 μ-loop tape T first result₀ p₀ result p = length tape - result
@@ -31,7 +31,7 @@ enum-told c = search needs
 returns : tie.Need-returns Inv-loop μ-loop
 returns c =
     let a = c .before .before .before .before .args in
-    sym (read-end (knuthMethod (a .exp-lambda)) (a .tape .now) 0 none 0 (sym (c .before .before .word-at .ensures) ∙ c .enum-told .given .1))
+    sym (read-end (knuthRule (a .exp-lambda)) (a .tape .now) 0 none 0 (sym (c .before .before .word-at .ensures) ∙ c .enum-told .given .1))
 
 fraction-requires : tie.Need-fraction-requires Inv-loop μ-loop
 fraction-requires c κs = search needs
@@ -41,7 +41,7 @@ loop-holds c =
     let a = c .before .before .before .before .before .before .args in
     let w = c .before .before .first .given .0 .0 in
     let e = sym (c .before .before .before .before .word-at .ensures) ∙ c .before .before .first .given .1 in
-    (word-there (a .tape .now) 0 w e .0, read-at (knuthMethod (a .exp-lambda)) (a .tape .now) 0 w none 0 e ∙ simp (← c .fraction .ensures))
+    (word-there (a .tape .now) 0 w e .0, read-at (knuthRule (a .exp-lambda)) (a .tape .now) 0 w none 0 e ∙ simp (← c .fraction .ensures))
 
 add-word-at : tie.Need-add-word-at Inv-loop μ-loop
 add-word-at c = search needs
@@ -60,7 +60,7 @@ returns-2 c =
     let a = c .before .before .before .before .before .before .before .before .before .before .before .args in
     let l = c .before .before .before .before .loop in
     let e = sym (c .before .before .word-at2 .ensures) ∙ c .enum-told2 .given .1 in
-    sym (l .inv .1 ∙ simp (c .before .before .before .loop-test .taken) (read-end (knuthMethod (a .exp-lambda)) (a .tape .now) (l .result + 1) (product (l .p) (l .result)) (l .result + 1) e))
+    sym (l .inv .1 ∙ simp (c .before .before .before .loop-test .taken) (read-end (knuthRule (a .exp-lambda)) (a .tape .now) (l .result + 1) (product (l .p) (l .result)) (l .result + 1) e))
 
 fraction-requires-2 : tie.Need-fraction-requires-2 Inv-loop μ-loop
 fraction-requires-2 c κs = search needs
@@ -77,7 +77,7 @@ loop-again c =
     let l = c .before .before .before .before .before .before .loop in
     let w = c .before .before .w .given .0 .0 in
     let e = sym (c .before .before .before .before .word-at2 .ensures) ∙ c .before .before .w .given .1 in
-    (word-there (a .tape .now) (l .result + 1) w e .0, l .inv .1 ∙ simp (c .before .before .before .before .before .loop-test .taken) (read-at (knuthMethod (a .exp-lambda)) (a .tape .now) (l .result + 1) w (product (l .p) (l .result)) (l .result + 1) e ∙ simp (← c .fraction2 .ensures)))
+    (word-there (a .tape .now) (l .result + 1) w e .0, l .inv .1 ∙ simp (c .before .before .before .before .before .loop-test .taken) (read-at (knuthRule (a .exp-lambda)) (a .tape .now) (l .result + 1) w (product (l .p) (l .result)) (l .result + 1) e ∙ simp (← c .fraction2 .ensures)))
 
 add-t15 : tie.Need-add-t15 Inv-loop μ-loop
 add-t15 c = search needs
@@ -86,7 +86,7 @@ returns-3 : tie.Need-returns-3 Inv-loop μ-loop
 returns-3 c =
     let a = c .before .before .before .before .before .before .before .before .args in
     let l = c .before .loop in
-    sym (l .inv .1 ∙ simp (c .loop-test .left, read-done (knuthMethod (a .exp-lambda))))
+    sym (l .inv .1 ∙ simp (c .loop-test .left, read-done (knuthRule (a .exp-lambda))))
 
 pub knuth-method-spec : {M : Type 1} → statement M
 knuth-method-spec =

@@ -4,7 +4,7 @@ use mathlib.Core.Path.{sym, _∙_}
 use lib.Ieee.{ofBits, round}
 use Rattle.words.specs.Rule.{reading}
 use Rattle.words.proofs.Drawing.{ends-same}
-use Rattle.poisson.specs.Poisson.{inRange, poisson, knuthMethod}
+use Rattle.poisson.specs.Poisson.{inRange, poisson, knuthRule}
 use Rattle.poisson.proofs.sample.Statement.{statement}
 use Rattle.poisson.proofs.sample.Tie as tie
 
@@ -24,7 +24,7 @@ returns-2 c =
     let a = c .before .before .before .before .before .before .args in
     c .knuth-method .ensures
     ∙ simp (sym (c .before .before .before .before .too-long .ensures) ∙ c .before .before .before .if1 .left, c .before .before .if2 .taken, c .before .if3 .taken)
-    (sym (ends-same (reading (knuthMethod (a .exp-lambda)) (a .tape .now))))
+    (sym (ends-same (reading (knuthRule (a .exp-lambda)) (a .tape .now))))
 
 returns-3 : tie.Need-returns-3
 unfolding poisson inRange ofBits round

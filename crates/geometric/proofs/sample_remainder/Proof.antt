@@ -1,0 +1,155 @@
+-- `geometric::sample_remainder` meets its contract. The loop's invariant: the search from here gives what the search from `at` gives.
+-- Assumes nothing.
+use borrow.Author.Needs.{needs}
+use mathlib.Core.Path.{_≡_, refl, sym, _∙_, subst}
+use Prim.Native.Nat.{ℕ, _<_, _+_, _-_, _%_}
+use native.Mathlib.Nat.{mod-lt, mul-le-mul}
+use native.Mathlib.Omega.{arith}
+use lib.ListN.{length, drop}
+use lib.Ieee.{Float, ofBits, round}
+use Rattle.words.specs.declared.Word.the-variants.{Is}
+use Rattle.words.specs.Words.{wordAt}
+use Rattle.words.specs.Rule.{more, read}
+use Rattle.words.proofs.Tape.{word-there}
+use Rattle.words.proofs.Reading.{read-done, read-at, read-end}
+use Rattle.geometric.specs.Geometric.{searchRule, searching, remainderWord, acceptance}
+use Rattle.geometric.proofs.sample_remainder.Statement.{statement}
+use Rattle.geometric.proofs.sample_remainder.Tie as tie
+
+abbrev Inv-loop : tie.InvT-loop
+Inv-loop tape q span d at i₀ i = (pi : Float) → read (searchRule q span pi) (drop at tape) (more (remainderWord d)) at ≡ read (searchRule q span pi) (drop i tape) (more (remainderWord d)) i
+
+abbrev μ-loop : tie.MeasureT-loop
+μ-loop tape q span d at i₀ i = length tape - i
+
+loop-holds : tie.Need-loop-holds Inv-loop μ-loop
+loop-holds c pi = refl
+
+word-at-requires : tie.Need-word-at-requires Inv-loop μ-loop
+word-at-requires c κs = search needs
+
+enum-known-w : tie.Need-enum-known-w Inv-loop μ-loop
+enum-known-w c = search needs
+
+enum-told : tie.Need-enum-told Inv-loop μ-loop
+enum-told c = search needs
+
+returns : tie.Need-returns Inv-loop μ-loop
+returns c pi =
+    let l = c .before .before .before .loop in
+    let a = c .before .before .before .before .before .args in
+    let e = sym (c .before .before .word-at .ensures) ∙ c .enum-told .given .1 in
+    sym (l .inv pi ∙ read-end (searchRule (a .q) (a .span) pi) (a .tape .now) (l .i) (remainderWord (a .d)) (l .i) e)
+
+-- the remainder's word
+first : (c : tie.After-known-told Inv-loop μ-loop) → wordAt (c .before .before .before .before .before .before .args .tape .now) (c .before .before .before .before .loop .i) ≡ Is (c .before .w .given .0 .0)
+first c = sym (c .before .before .before .word-at .ensures) ∙ c .before .w .given .1
+
+rem-m : tie.Need-rem-m Inv-loop μ-loop
+rem-m c = search needs
+
+add-word-at : tie.Need-add-word-at Inv-loop μ-loop
+add-word-at c = let h = word-there _ _ _ (first c) .0 in omega arith
+
+word-at-requires-2 : tie.Need-word-at-requires-2 Inv-loop μ-loop
+word-at-requires-2 c κs = search needs
+
+enum-known-v : tie.Need-enum-known-v Inv-loop μ-loop
+enum-known-v c = search needs
+
+enum-told-2 : tie.Need-enum-told-2 Inv-loop μ-loop
+enum-told-2 c = search needs
+
+returns-2 : tie.Need-returns-2 Inv-loop μ-loop
+returns-2 c pi =
+    let k = c .before .before .before in
+    let l = k .before .before .before .before .loop in
+    let a = k .before .before .before .before .before .before .args in
+    let r = searchRule (a .q) (a .span) pi in
+    let w = k .before .w .given .0 .0 in
+    let e = sym (c .before .before .word-at2 .ensures) ∙ c .enum-told2 .given .1 in
+    sym (l .inv pi ∙ read-at r (a .tape .now) (l .i) w (remainderWord (a .d)) (l .i) (first k)
+    ∙ read-end r (a .tape .now) (l .i + 1) (acceptance (a .d) (w % a .span)) (l .i + 1) e)
+
+-- the acceptance fraction's word
+second : (c : tie.After-known-told2 Inv-loop μ-loop) → wordAt (c .before .before .before .before .before .before .before .before .before .before .args .tape .now) (c .before .before .before .before .before .before .before .before .loop .i + 1) ≡ Is (c .before .v .given .0 .0)
+second c = sym (c .before .before .before .word-at2 .ensures) ∙ c .before .v .given .1
+
+add-i : tie.Need-add-i Inv-loop μ-loop
+add-i c = let h = word-there _ _ _ (second c) .0 in omega arith
+
+fraction-requires : tie.Need-fraction-requires Inv-loop μ-loop
+fraction-requires c κs = search needs
+
+power-requires : tie.Need-power-requires Inv-loop μ-loop
+power-requires c κs = search needs
+
+-- A try reads two words, and stands before its judgement.
+try : (c : tie.After-known-told2 Inv-loop μ-loop) (pi : Float) →
+    let l = c .before .before .before .before .before .before .before .before .loop in
+    let a = c .before .before .before .before .before .before .before .before .before .before .args in
+    read (searchRule (a .q) (a .span) pi) (drop (a .at) (a .tape .now)) (more (remainderWord (a .d))) (a .at)
+    ≡ read (searchRule (a .q) (a .span) pi) (drop (l .i + 2) (a .tape .now))
+    (searching (a .q) (a .span) pi (acceptance (a .d) (c .before .before .before .before .before .w .given .0 .0 % a .span)) (c .before .v .given .0 .0))
+    (l .i + 2)
+try c pi =
+    let k = c .before .before .before .before in
+    let l = k .before .before .before .before .loop in
+    let a = k .before .before .before .before .before .before .args in
+    let r = searchRule (a .q) (a .span) pi in
+    let w = k .before .w .given .0 .0 in
+    let v = c .before .v .given .0 .0 in
+    let two : l .i + 1 + 1 ≡ l .i + 2 = omega arith in
+    l .inv pi ∙ read-at r (a .tape .now) (l .i) w (remainderWord (a .d)) (l .i) (first k)
+    ∙ read-at r (a .tape .now) (l .i + 1) v (acceptance (a .d) (w % a .span)) (l .i + 1) (second c)
+    ∙ rw two
+
+loop-less : tie.Need-loop-less Inv-loop μ-loop
+loop-less c = let h = word-there _ _ _ (second (c .before .before .before)) .0 in omega arith
+
+loop-again : tie.Need-loop-again Inv-loop μ-loop
+unfolding ofBits round
+loop-again c pi = try (c .before .before .before) pi ∙ simp (← c .before .before .fraction .ensures, ← c .before .power .ensures, c .if1 .left)
+
+mul-t20 : tie.Need-mul-t20 Inv-loop μ-loop
+mul-t20 c =
+    let p = c .before .before .before .before .before .before .before .before .before .before .before .before .before .pre in
+    omega (arith, mul-le-mul (p .2) (p .1))
+
+add-t21 : tie.Need-add-t21 Inv-loop μ-loop
+add-t21 c =
+    let p = c .before .before .before .before .before .before .before .before .before .before .before .before .before .pre in
+    omega (arith, mul-le-mul (p .2) (p .1), mod-lt (c .before .before .before .before .before .before .before .before .w .given .0 .0) (p .0))
+
+returns-3 : tie.Need-returns-3 Inv-loop μ-loop
+unfolding ofBits round
+returns-3 c pi =
+    let a = c .before .before .before .before .before .before .before .before .before .before .before .before .before .args in
+    sym (try (c .before .before .before) pi
+    ∙ simp (← c .before .before .fraction .ensures, ← c .before .power .ensures, c .if1 .taken, read-done (searchRule (a .q) (a .span) pi)))
+
+pub sample-remainder-spec : {M : Type 1} → statement M
+sample-remainder-spec =
+    tie.close
+    (tie.spec
+    Inv-loop
+    μ-loop
+    loop-holds
+    word-at-requires
+    enum-known-w
+    enum-told
+    returns
+    rem-m
+    add-word-at
+    word-at-requires-2
+    enum-known-v
+    enum-told-2
+    returns-2
+    add-i
+    fraction-requires
+    power-requires
+    loop-less
+    loop-again
+    mul-t20
+    add-t21
+    returns-3)
