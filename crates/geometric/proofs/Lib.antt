@@ -1,3 +1,5 @@
 pub mod Powers
 pub mod Squarings
 pub mod Zeros
+pub mod StandardLaws
+pub mod GeometricLaws

@@ -3,7 +3,7 @@
 use borrow.Author.Needs.{needs}
 use borrow.Author.Tests.{eq-eqb, ne-eqb}
 use mathlib.Core.Path.{_≡_, refl, sym, ap, _∙_}
-use Prim.Native.Nat.{_≤_, _<_, _*_, _-_, _^_, zero-le}
+use Prim.Native.Nat.{_≤_, _*_, _-_, zero-le}
 use native.Mathlib.Omega.{arith}
 use lib.ListN.{length, drop}
 use lib.Count.{leadingZeros, leading-le, leading-of-zero}
@@ -66,9 +66,6 @@ add-i c = omega arith
 there : (c : tie.After-known-told Inv-loop μ-loop) → wordAt (c .before .before .before .before .before .before .before .before .args .tape .now) (c .before .before .before .before .loop .i) ≡ Is (c .before .w .given .0 .0)
 there c = sym (c .before .before .before .word-at .ensures) ∙ c .before .w .given .1
 
-fits : (c : tie.After-known-told Inv-loop μ-loop) → c .before .w .given .0 .0 < 2 ^ 64
-fits c = omega arith
-
 returns-3 : tie.Need-returns-3 Inv-loop μ-loop
 returns-3 c =
     let k = c .before in
@@ -84,7 +81,7 @@ loop-again c =
     let k = c .before in
     let l = k .before .before .before .before .loop in
     let w = k .before .w .given .0 .0 in
-    let z = all-zeros w (fits k) (c .if2 .left) in
+    let z = all-zeros w (c .if2 .left) in
     let n : leadingZeros 64 w ≡ 64 = ap (leadingZeros 64) z ∙ leading-of-zero 64 in
     let h = word-there _ (l .i) w (there k) .0 in (
       omega arith,
