@@ -9,7 +9,8 @@ use native.Mathlib.Numerals.{add-one}
 use native.Mathlib.Omega.{arith}
 use borrow.Author.Count.{below-none, below-more}
 use lib.ListN.{length, take, getD}
-use lib.Ieee.{Float, lt, le}
+use lib.IntN.{pos}
+use lib.Ieee.{Float, nan, fin, binary64, round, lt, le, ofBits}
 use Rattle.words.specs.Words.{mostWords, fractionOf}
 use Rattle.words.specs.Outcome.{Outcome, drawn, refused}
 use Rattle.words.specs.Rule.{done, more, Rule, reading, Local}
@@ -19,10 +20,25 @@ use Rattle.words.proofs.Reading.{refused-not-drawn, reading-used, reading-short
 use Rattle.words.proofs.Keeping.{After, after-cond, reading-keeps}
 use Rattle.words.proofs.Locality.{reading-local, cond-local, const-local}
 use Rattle.words.proofs.Drawing.{accepted-within, accepted-reading, draw-exactly, draw-local}
-use Rattle.geometric.specs.Power.{power}
+use Rattle.geometric.specs.Power.{whole, power}
 use Rattle.geometric.specs.Squares.{squares}
-use Rattle.geometric.specs.Geometric.{isLarge, qOf, isNever, trivialRule, Search, firstRun, remainderWord, acceptance, searching, searchRule, geometricReading, probabilityRefusals, geometric}
+use Rattle.geometric.specs.Geometric.{isProbability, isLarge, qOf, isNever, trivialRule, Search, firstRun, remainderWord, acceptance, searching, searchRule, geometricReading, probabilityRefusals, geometric}
 use Rattle.geometric.proofs.Squarings.{span-bounds}
+
+-- ---- the range of p
+
+-- a NaN is no probability; -0.0 is one, and so are 0 and 1; the next floats past them are not
+pub nan-not-probability : isProbability nan ≡ false
+unfolding isProbability le round
+nan-not-probability = refl
+
+pub probability-ends : (isProbability (fin true 0 (pos 0)) ≡ true) × (isProbability (whole 0) ≡ true) × (isProbability (whole 1) ≡ true)
+unfolding isProbability le round
+probability-ends = (refl, refl, refl)
+
+pub probability-past : (isProbability (ofBits binary64 0x8000_0000_0000_0001) ≡ false) × (isProbability (ofBits binary64 0x3ff0_0000_0000_0001) ≡ false)
+unfolding isProbability le round ofBits
+probability-past = (refl, refl)
 
 -- ---- p ≥ 2/3
 

@@ -3,12 +3,12 @@ use mathlib.Core.Path.{_≡_, refl, sym, ap, ap₂, _∙_}
 use mathlib.Core.Bool.{true, false}
 use mathlib.Core.List.{List}
 use mathlib.Core.Logic.{_↔_}
-use Prim.Native.Nat.{ℕ, zero, suc, _+_, _≤_, _<_}
+use Prim.Native.Nat.{ℕ, zero, suc, _+_, _^_, _≤_, _<_}
 use native.Mathlib.Numerals.{add-one}
 use native.Mathlib.Omega.{arith}
 use borrow.Author.Count.{below-none, below-more}
 use lib.ListN.{length, take, getD}
-use lib.Ieee.{Float, binary64, mul, lt}
+use lib.Ieee.{Float, nan, binary64, round, mul, lt, le, ofBits}
 use Rattle.words.specs.Words.{mostWords, fractionOf}
 use Rattle.words.specs.Outcome.{drawn, refused}
 use Rattle.words.specs.Rule.{done, more, reading}
@@ -18,7 +18,20 @@ use Rattle.words.proofs.Reading.{reading-used, reading-short}
 use Rattle.words.proofs.Keeping.{After, after-cond, reading-keeps}
 use Rattle.words.proofs.Locality.{reading-local}
 use Rattle.words.proofs.Drawing.{accepted-within, accepted-reading, draw-exactly, draw-local}
-use Rattle.poisson.specs.Poisson.{Product, none, product, whileAbove, knuthRule, thresholdRefusals, poisson}
+use Rattle.poisson.specs.Poisson.{Product, none, product, whileAbove, knuthRule, inRange, thresholdRefusals, poisson}
+
+-- a NaN is outside the range; both its ends are inside, and the next floats past them are not
+pub nan-outside : inRange nan ≡ false
+unfolding inRange le round
+nan-outside = refl
+
+pub range-ends : (inRange (round binary64 false 1 (2 ^ 18)) ≡ true) × (inRange (round binary64 false 1 1) ≡ true)
+unfolding inRange le round
+range-ends = (refl, refl)
+
+pub range-past : (inRange (ofBits binary64 0x3ecf_ffff_ffff_ffff) ≡ false) × (inRange (ofBits binary64 0x3ff0_0000_0000_0001) ≡ false)
+unfolding inRange le round ofBits
+range-past = (refl, refl)
 
 -- the product of the first n + 1 fractions, multiplied in order
 unfoldable pub productOf : List ℕ → ℕ → Float

@@ -1,5 +1,5 @@
 -- What the test for a pattern of NaN tells: of a float that is made of the bits, and of the one NaN. Assumes nothing.
-use mathlib.Core.Path.{_≡_, refl, sym, _∙_, subst}
+use mathlib.Core.Path.{_≡_, refl, sym, ap, _∙_, subst}
 use mathlib.Core.Bool.{Bool, true, false, not}
 use Prim.Native.Nat.{ℕ}
 use lib.Dec.{T}
@@ -11,8 +11,12 @@ pub float-of-bits : (bits : ℕ) → isNan (ofBits binary64 bits) ≡ false → 
 float-of-bits bits e = subst (λ (b : Bool). T (not b)) (sym (nanBits-is binary64 bits ∙ e)) tt
 
 -- there is one NaN
-pub nan-is : (x : Float) → isNan x ≡ true → x ≡ nan
+nan-is : (x : Float) → isNan x ≡ true → x ≡ nan
 unfolding isNan
 nan-is nan e = refl
 nan-is (inf s) e = absurd (subst T (sym e) tt)
 nan-is (fin s m d) e = absurd (subst T (sym e) tt)
+
+-- so a test that fails of NaN fails of each pattern of NaN
+pub fails-of-pattern : (test : Float → Bool) → test nan ≡ false → (bits : ℕ) → isNan (ofBits binary64 bits) ≡ true → test (ofBits binary64 bits) ≡ false
+fails-of-pattern test f bits e = ap test (nan-is (ofBits binary64 bits) e) ∙ f

@@ -2,6 +2,7 @@
 ghost use mathlib.Core.Path.{_≡_};
 ghost use lib.Ieee.{binary64, isNan, ofBits};
 ghost use Rattle.words.specs.Words.{fractionOf, tooLong, wordAt};
+ghost use Rattle.words.specs.Paper.{numberOf};
 
 // Why a call was refused: every name of the table of refusals, in the order of its numbers.
 pub enum Refusal {
@@ -34,6 +35,31 @@ pub enum Answer {
 pub enum Word {
     Is(u64),
     End,
+}
+
+// The number of a refusal, as the table of refusals has it.
+pub fn number(refusal: Refusal) -> u32
+    ensures { λ r. ⌜ r ≡ numberOf refusal ⌝ }
+{
+    match refusal {
+        Refusal::TapeTooLong => 1,
+        Refusal::PopulationTooLarge => 2,
+        Refusal::ProbabilityTooLarge => 3,
+        Refusal::SampleSizeTooLarge => 4,
+        Refusal::CapExceeded => 5,
+        Refusal::ModeTooHigh => 6,
+        Refusal::ThresholdOutside => 7,
+        Refusal::InvalidProbability => 8,
+        Refusal::TooRare => 9,
+        Refusal::Exhausted => 10,
+        Refusal::BookTooLong => 11,
+        Refusal::BookDamaged => 12,
+        Refusal::SerialAhead => 13,
+        Refusal::SerialReused => 14,
+        Refusal::BookFull => 15,
+        Refusal::StrikeTooMany => 16,
+        Refusal::RedrawDiffers => 17,
+    }
 }
 
 // The most words that a tape may have.

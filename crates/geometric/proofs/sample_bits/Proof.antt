@@ -1,10 +1,9 @@
 -- `geometric::sample_bits` meets its contract: a NaN is no probability, and any other pattern is a float. Assumes nothing.
 use borrow.Author.Needs.{needs}
-use mathlib.Core.Path.{_≡_, refl, sym, ap, _∙_}
-use mathlib.Core.Bool.{true, false}
-use lib.Ieee.{Float, nan, binary64, isNan, le, ofBits, round}
-use Rattle.words.proofs.Patterns.{float-of-bits, nan-is}
+use mathlib.Core.Path.{sym, _∙_}
+use Rattle.words.proofs.Patterns.{float-of-bits, fails-of-pattern}
 use Rattle.geometric.specs.Geometric.{isProbability, geometric}
+use Rattle.geometric.proofs.GeometricLaws.{nan-not-probability}
 use Rattle.geometric.proofs.sample_bits.Statement.{statement}
 use Rattle.geometric.proofs.sample_bits.Tie as tie
 
@@ -18,15 +17,12 @@ returns c = simp (sym (c .before .too-long .ensures) ∙ c .if1 .taken)
 is-nan-pattern-requires : tie.Need-is-nan-pattern-requires
 is-nan-pattern-requires c κs = search needs
 
-nan-not : (x : Float) → isNan x ≡ true → isProbability x ≡ false
-unfolding isProbability le round
-nan-not x e = ap isProbability (nan-is x e)
-
 returns-2 : tie.Need-returns-2
 unfolding geometric
 returns-2 c =
-    let p = ofBits binary64 (c .before .before .before .before .before .args .p) in
-    simp (sym (c .before .before .before .too-long .ensures) ∙ c .before .before .if1 .left, nan-not p (sym (c .before .is-nan-pattern .ensures) ∙ c .if2 .taken))
+    let bits = c .before .before .before .before .before .args .p in
+    let e = sym (c .before .is-nan-pattern .ensures) ∙ c .if2 .taken in
+    simp (sym (c .before .before .before .too-long .ensures) ∙ c .before .before .if1 .left, fails-of-pattern isProbability nan-not-probability bits e)
 
 float-from-bits-sample : tie.Need-float-from-bits-sample
 float-from-bits-sample c = float-of-bits _ (sym (c .before .is-nan-pattern .ensures) ∙ c .if2 .left)

@@ -1,10 +1,9 @@
 -- `poisson::sample_bits` meets its contract: a NaN is outside the range, and any other pattern is a float. Assumes nothing.
 use borrow.Author.Needs.{needs}
-use mathlib.Core.Path.{_≡_, refl, sym, ap, _∙_}
-use mathlib.Core.Bool.{true, false}
-use lib.Ieee.{Float, nan, binary64, isNan, le, ofBits, round}
-use Rattle.words.proofs.Patterns.{float-of-bits, nan-is}
+use mathlib.Core.Path.{sym, _∙_}
+use Rattle.words.proofs.Patterns.{float-of-bits, fails-of-pattern}
 use Rattle.poisson.specs.Poisson.{inRange, poisson}
+use Rattle.poisson.proofs.Laws.{nan-outside}
 use Rattle.poisson.proofs.sample_bits.Statement.{statement}
 use Rattle.poisson.proofs.sample_bits.Tie as tie
 
@@ -18,15 +17,12 @@ returns c = simp (sym (c .before .too-long .ensures) ∙ c .if1 .taken)
 is-nan-pattern-requires : tie.Need-is-nan-pattern-requires
 is-nan-pattern-requires c κs = search needs
 
-nan-outside : (x : Float) → isNan x ≡ true → inRange x ≡ false
-unfolding inRange le round
-nan-outside x e = ap inRange (nan-is x e)
-
 returns-2 : tie.Need-returns-2
 unfolding poisson
 returns-2 c =
-    let T = ofBits binary64 (c .before .before .before .before .before .args .exp-lambda) in
-    simp (sym (c .before .before .before .too-long .ensures) ∙ c .before .before .if1 .left, nan-outside T (sym (c .before .is-nan-pattern .ensures) ∙ c .if2 .taken))
+    let bits = c .before .before .before .before .before .args .exp-lambda in
+    let e = sym (c .before .is-nan-pattern .ensures) ∙ c .if2 .taken in
+    simp (sym (c .before .before .before .too-long .ensures) ∙ c .before .before .if1 .left, fails-of-pattern inRange nan-outside bits e)
 
 float-from-bits-sample : tie.Need-float-from-bits-sample
 float-from-bits-sample c = float-of-bits _ (sym (c .before .is-nan-pattern .ensures) ∙ c .if2 .left)
