@@ -59,8 +59,10 @@ module _ (p : Float) (ws : List ℕ) where
     where
       here : (b : Bool) → le (fractionOf (getD ws u 0)) p ≡ b → le (fractionOf (getD ws n 0)) p ≡ b
       here b t = subst (λ (i : ℕ). le (fractionOf (getD ws i 0)) p ≡ b) (k .0) t
+
       stop : le (fractionOf (getD ws u 0)) p ≡ true → Failures n (suc u)
       stop t = record { used = omega arith; above = k .1; last = here true t }
+
       on : le (fractionOf (getD ws u 0)) p ≡ false → AllAbove (n + 1) (suc u)
       on t = (omega arith, below-more (λ (i : ℕ). le (fractionOf (getD ws i 0)) p ≡ false) n (k .1) (here false t))
 
@@ -118,8 +120,10 @@ module _ (q : Float) (span : ℕ) (pi : Float) (ws : List ℕ) where
     where
       here : (b : Bool) → lt (fractionOf (getD ws u 0)) pi ≡ b → isBelow d ≡ b
       here b t = subst (λ (i : ℕ). isBelow i ≡ b) (k .0) t
+
       on : lt (fractionOf (getD ws u 0)) pi ≡ true → Kept (firstRun (d + 1)) (suc u)
       on t = (omega arith, below-more (λ (i : ℕ). isBelow i ≡ true) d (k .1) (here true t))
+
       stop : lt (fractionOf (getD ws u 0)) pi ≡ false → Kept (remainderWord d) (suc u)
       stop t = (0, omega arith, record { run = k .1; stop = here false t; rejected = below-none (λ (j : ℕ). isAccepted d j ≡ false) })
 
@@ -134,17 +138,30 @@ module _ (q : Float) (span : ℕ) (pi : Float) (ws : List ℕ) where
     where
       here : (b : Bool) → lt (fractionOf (getD ws u 0)) (power q m) ≡ b → isAccepted d (k .0) ≡ b
       here b t = ap₂ (λ (i n : ℕ). lt (fractionOf (getD ws i 0)) (power q n)) (sym (k .1)) (sym (k .3)) ∙ t
+
       take : lt (fractionOf (getD ws u 0)) (power q m) ≡ true → Searched (d * span + m) (suc u)
       take t =
           record {
-            d = d; before = k .0; tries = k .0 + 1; m = m; count = refl; used = omega arith; last = refl; past = k .2; remainder = k .3; accepted = here true t;
+            d = d;
+            before = k .0;
+            tries = k .0 + 1;
+            m = m;
+            count = refl;
+            used = omega arith;
+            last = refl;
+            past = k .2;
+            remainder = k .3;
+            accepted = here true t;
           }
+
       again : lt (fractionOf (getD ws u 0)) (power q m) ≡ false → Kept (remainderWord d) (suc u)
       again t = (
         k .0 + 1,
         omega arith,
         record {
-          run = k .2 .run; stop = k .2 .stop; rejected = below-more (λ (j : ℕ). isAccepted d j ≡ false) (k .0) (k .2 .rejected) (here false t);
+          run = k .2 .run;
+          stop = k .2 .stop;
+          rejected = below-more (λ (j : ℕ). isAccepted d j ≡ false) (k .0) (k .2 .rejected) (here false t);
         },
       )
 

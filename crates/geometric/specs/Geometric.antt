@@ -37,9 +37,9 @@ trivialRule p = record { start = more 0; step = λ n w. cond (le (fractionOf w) 
 
 -- p < 2/3: what the next word is for
 pub data Search : Type 0 where
-  firstRun : ℕ → Search          -- a fraction of the first run, after d fractions below pi
-  remainderWord : ℕ → Search     -- the word of a try for the remainder
-  acceptance : ℕ → ℕ → Search    -- the fraction that accepts the try m or not
+  firstRun : ℕ → Search  -- a fraction of the first run, after d fractions below pi
+  remainderWord : ℕ → Search  -- the word of a try for the remainder
+  acceptance : ℕ → ℕ → Search  -- the fraction that accepts the try m or not
 
 -- with span for 2^k: d is the number of fractions below pi before the first that isn't; then each try takes m, the next word mod 2^k,
 -- and accepts it where the next fraction is below q^m; the count is d × 2^k + m

@@ -75,13 +75,14 @@ fn sample_trivial(tape: &[u64], p: f64) -> Answer
         let Word::Is(w) = words::word_at(tape, failures) else {
             return Answer::Refused(Refusal::Exhausted);
         };
+        let used = failures + 1;
         if words::fraction(w) <= p {
             return Answer::Drawn {
                 count: failures as u64,
-                used: failures + 1,
+                used,
             };
         }
-        failures += 1;
+        failures = used;
     }
 }
 
@@ -143,10 +144,8 @@ fn sample_remainder(tape: &[u64], q: f64, span: u64, d: u64, at: usize) -> Answe
             break m;
         }
     };
-    Answer::Drawn {
-        count: d * span + m,
-        used: i,
-    }
+    let count = d * span + m;
+    Answer::Drawn { count, used: i }
 }
 
 // r times a^b, by halving b: 1.0 and q give q^b.

@@ -65,6 +65,7 @@ module _ (T : Float) (ws : List ℕ) where
     where
       up : lt T p ≡ true → Multiplied (product p n) (suc u)
       up t = (omega arith, same, below-more (λ (i : ℕ). lt T (productOf ws i) ≡ true) n above (ap (lt T) (sym same) ∙ t))
+
       stop : lt T p ≡ false → Knuth n (suc u)
       stop t = record { used = omega arith; above = above; last = ap (lt T) (sym same) ∙ t }
 

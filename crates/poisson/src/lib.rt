@@ -56,8 +56,9 @@ fn knuth_method(tape: &[u64], exp_lambda: f64) -> Answer
         p = p * words::fraction(w);
         result += 1;
     }
+    let used = result + 1;
     Answer::Drawn {
         count: result as u64,
-        used: result + 1,
+        used,
     }
 }

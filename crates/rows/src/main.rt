@@ -34,10 +34,16 @@ fn poisson_rows() {
     let tape = [0xc000_0000_0000_0000u64; 3];
     line(b"poisson 0.5", poisson::sample(&tape, 0.5));
     line(b"poisson 0.5, two words", poisson::sample(&tape[..2], 0.5));
-    line(b"poisson 2^-18", poisson::sample(&tape, 0.000003814697265625));
+    line(
+        b"poisson 2^-18",
+        poisson::sample(&tape, 0.000003814697265625),
+    );
     line(b"poisson 1", poisson::sample(&tape, 1.0));
     line(b"poisson 1.5", poisson::sample(&tape, 1.5));
-    line(b"poisson NaN", poisson::sample_bits(&tape, 0x7ff8_0000_0000_0000));
+    line(
+        b"poisson NaN",
+        poisson::sample_bits(&tape, 0x7ff8_0000_0000_0000),
+    );
 }
 
 // p is at least 2/3: fractions above it are failures.
@@ -45,45 +51,96 @@ fn large_rows() {
     let tape = [0xffff_ffff_ffff_ffffu64, 0];
     line(b"geometric 0.75", geometric::sample(&tape, 0.75));
     let edge = [0xc000_0000_0000_0000u64];
-    line(b"geometric 0.75, its own fraction", geometric::sample(&edge, 0.75));
+    line(
+        b"geometric 0.75, its own fraction",
+        geometric::sample(&edge, 0.75),
+    );
     line(b"geometric 1", geometric::sample(&tape, 1.0));
     line(b"geometric 1.5", geometric::sample(&tape, 1.5));
-    line(b"geometric NaN", geometric::sample_bits(&tape, 0x7ff8_0000_0000_0000));
+    line(
+        b"geometric NaN",
+        geometric::sample_bits(&tape, 0x7ff8_0000_0000_0000),
+    );
 }
 
 // p is below 2/3: the first run, and the search for the remainder.
 fn small_rows() {
     let accepted = [0x8000_0000_0000_0000u64, 1, 0];
     line(b"geometric 0.5", geometric::sample(&accepted, 0.5));
-    let again = [0x8000_0000_0000_0000u64, 1, 0x8000_0000_0000_0000, 0, 0x8000_0000_0000_0000];
-    line(b"geometric 0.5, a second try", geometric::sample(&again, 0.5));
-    line(b"geometric 0.5, no second try", geometric::sample(&again[..4], 0.5));
+    let again = [
+        0x8000_0000_0000_0000u64,
+        1,
+        0x8000_0000_0000_0000,
+        0,
+        0x8000_0000_0000_0000,
+    ];
+    line(
+        b"geometric 0.5, a second try",
+        geometric::sample(&again, 0.5),
+    );
+    line(
+        b"geometric 0.5, no second try",
+        geometric::sample(&again[..4], 0.5),
+    );
 }
 
 // Two tries that another order of multiplication in q^7 would reject: they would give count 0, used 5.
 fn power_rows() {
     let powf = [0xffff_ffff_ffff_ffffu64, 7, 0xcd4e_86cc_7f73_b000, 0, 0];
-    line(b"geometric 0.03103289008140564", geometric::sample(&powf, 0.03103289008140564));
+    line(
+        b"geometric 0.03103289008140564",
+        geometric::sample(&powf, 0.03103289008140564),
+    );
     let leftwards = [0xffff_ffff_ffff_ffffu64, 7, 0x95c8_884e_8bdd_9800, 0, 0];
-    line(b"geometric 0.07371161878108978", geometric::sample(&leftwards, 0.07371161878108978));
+    line(
+        b"geometric 0.07371161878108978",
+        geometric::sample(&leftwards, 0.07371161878108978),
+    );
 }
 
 // Where TooRare ends: the last p that 31 squarings leave above 0.5, and the next; and the first p above 2^-54.
 fn rare_rows() {
     let tape = [0xffff_ffff_ffff_ffffu64, 5, 0];
-    line(b"geometric 2^-31", geometric::sample_bits(&tape, 0x3e00_0000_0000_0000));
-    line(b"geometric 2^-32", geometric::sample_bits(&tape, 0x3df0_0000_0000_0000));
-    line(b"geometric 0x3df62e42bfffffff", geometric::sample_bits(&tape, 0x3df6_2e42_bfff_ffff));
-    line(b"geometric 0x3df62e42c0000000", geometric::sample_bits(&tape, 0x3df6_2e42_c000_0000));
-    line(b"geometric 0x3c90000000000001", geometric::sample_bits(&tape, 0x3c90_0000_0000_0001));
-    line(b"geometric 2^-54", geometric::sample_bits(&tape[..0], 0x3c90_0000_0000_0000));
-    line(b"geometric -0.0", geometric::sample_bits(&tape[..0], 0x8000_0000_0000_0000));
+    line(
+        b"geometric 2^-31",
+        geometric::sample_bits(&tape, 0x3e00_0000_0000_0000),
+    );
+    line(
+        b"geometric 2^-32",
+        geometric::sample_bits(&tape, 0x3df0_0000_0000_0000),
+    );
+    line(
+        b"geometric 0x3df62e42bfffffff",
+        geometric::sample_bits(&tape, 0x3df6_2e42_bfff_ffff),
+    );
+    line(
+        b"geometric 0x3df62e42c0000000",
+        geometric::sample_bits(&tape, 0x3df6_2e42_c000_0000),
+    );
+    line(
+        b"geometric 0x3c90000000000001",
+        geometric::sample_bits(&tape, 0x3c90_0000_0000_0001),
+    );
+    line(
+        b"geometric 2^-54",
+        geometric::sample_bits(&tape[..0], 0x3c90_0000_0000_0000),
+    );
+    line(
+        b"geometric -0.0",
+        geometric::sample_bits(&tape[..0], 0x8000_0000_0000_0000),
+    );
     line(b"geometric 0", geometric::sample(&tape[..0], 0.0));
 }
 
 fn standard_rows() {
     let tape = [0u64, 0x8000_0000_0000_0000, 1];
     line(b"standard", geometric::sample_standard(&tape));
-    line(b"standard, the word 1", geometric::sample_standard(&tape[2..]));
-    line(b"standard, the word 0", geometric::sample_standard(&tape[..1]));
+    line(
+        b"standard, the word 1",
+        geometric::sample_standard(&tape[2..]),
+    );
+    line(
+        b"standard, the word 0",
+        geometric::sample_standard(&tape[..1]),
+    );
 }

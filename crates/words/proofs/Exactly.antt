@@ -26,6 +26,7 @@ given-first {A} (c ∷ cs) o n e = go (given-first cs o n) (c .holds) refl e
     past : c .holds ≡ false → First n cs ⊎ (o ≡ refused n) → First n (c ∷ cs) ⊎ (o ≡ refused n)
     past t (inl f) = inl (inr (t, f))
     past t (inr x) = inr x
+
     go : (given cs o ≡ refused n → First n cs ⊎ (o ≡ refused n))
         → (b : Bool) → c .holds ≡ b → cond b (refused (c .number)) (given cs o) ≡ refused n → First n (c ∷ cs) ⊎ (o ≡ refused n)
     go rest true t x = inl (inl (t, same-number {A = A} (c .number) n x))

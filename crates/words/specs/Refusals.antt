@@ -13,7 +13,6 @@ pub record Condition : Type 0 where
   pub holds : Bool
 
 infix 70 _on_
-
 abbrev pub _on_ : ℕ → Bool → Condition
 n on b = record { number = n; holds = b }
 

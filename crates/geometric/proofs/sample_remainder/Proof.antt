@@ -111,13 +111,13 @@ loop-again : tie.Need-loop-again Inv-loop μ-loop
 unfolding ofBits round
 loop-again c pi = try (c .before .before .before) pi ∙ simp (← c .before .before .fraction .ensures, ← c .before .power .ensures, c .if1 .left)
 
-mul-t20 : tie.Need-mul-t20 Inv-loop μ-loop
-mul-t20 c =
+mul-count : tie.Need-mul-count Inv-loop μ-loop
+mul-count c =
     let p = c .before .before .before .before .before .before .before .before .before .before .before .before .before .pre in
     omega (arith, mul-le-mul (p .2) (p .1))
 
-add-t21 : tie.Need-add-t21 Inv-loop μ-loop
-add-t21 c =
+add-count : tie.Need-add-count Inv-loop μ-loop
+add-count c =
     let p = c .before .before .before .before .before .before .before .before .before .before .before .before .before .pre in
     omega (arith, mul-le-mul (p .2) (p .1), mod-lt (c .before .before .before .before .before .before .before .before .w .given .0 .0) (p .0))
 
@@ -150,6 +150,6 @@ sample-remainder-spec =
     power-requires
     loop-less
     loop-again
-    mul-t20
-    add-t21
+    mul-count
+    add-count
     returns-3)

@@ -2,15 +2,17 @@
 -- the whole reading gives. Assumes nothing.
 use borrow.Author.Needs.{needs}
 use mathlib.Core.Path.{_≡_, refl, sym, _∙_}
-use Prim.Native.Nat.{_≤_, _<_, _-_, zero-le}
+use mathlib.Core.Bool.{cond}
+use Prim.Native.Nat.{_≤_, _<_, _+_, _-_, zero-le}
 use native.Mathlib.Omega.{arith}
 use lib.ListN.{length, drop}
+use lib.Ieee.{lt}
 use Rattle.words.specs.declared.Word.the-variants.{Is}
 use Rattle.words.specs.Words.{wordAt}
 use Rattle.words.specs.Rule.{more, read, reading}
 use Rattle.words.proofs.Tape.{word-there}
 use Rattle.words.proofs.Reading.{read-at, read-end}
-use Rattle.geometric.specs.Geometric.{searchRule, firstRun}
+use Rattle.geometric.specs.Geometric.{searchRule, firstRun, remainderWord}
 use Rattle.geometric.proofs.sample_search.Statement.{statement}
 use Rattle.geometric.proofs.sample_search.Tie as tie
 
@@ -48,6 +50,20 @@ there c = sym (c .before .before .before .word-at .ensures) ∙ c .before .w .gi
 below : (c : tie.After-known-told Inv-loop μ-loop) → c .before .before .before .before .loop .d < length (c .before .before .before .before .before .before .args .tape .now)
 below c = word-there _ _ _ (there c) .0
 
+-- a turn has read its fraction, and stands before its judgement
+turn : (c : tie.After-fraction Inv-loop μ-loop) →
+    let l = c .before .before .before .before .before .loop in
+    let a = c .before .before .before .before .before .before .before .args in
+    let r = searchRule (a .q) (a .span) (a .pi) in
+    reading r (a .tape .now)
+    ≡ read r (drop (l .d + 1) (a .tape .now)) (cond (lt (c .fraction .result) (a .pi)) (more (firstRun (l .d + 1))) (more (remainderWord (l .d)))) (l .d + 1)
+turn c =
+    let k = c .before in
+    let l = k .before .before .before .before .loop in
+    let a = k .before .before .before .before .before .before .args in
+    l .inv .1 ∙ read-at (searchRule (a .q) (a .span) (a .pi)) (a .tape .now) (l .d) (k .before .w .given .0 .0) (firstRun (l .d)) (l .d) (there k)
+    ∙ simp (← c .fraction .ensures)
+
 add-d : tie.Need-add-d Inv-loop μ-loop
 add-d c = search needs
 
@@ -55,15 +71,7 @@ loop-less : tie.Need-loop-less Inv-loop μ-loop
 loop-less c = let h = below (c .before .before) in omega arith
 
 loop-again : tie.Need-loop-again Inv-loop μ-loop
-loop-again c =
-    let k = c .before .before in
-    let l = k .before .before .before .before .loop in
-    let a = k .before .before .before .before .before .before .args in
-    let h = below k in (
-      omega arith,
-      l .inv .1 ∙ read-at (searchRule (a .q) (a .span) (a .pi)) (a .tape .now) (l .d) (k .before .w .given .0 .0) (firstRun (l .d)) (l .d) (there k)
-          ∙ simp (← c .before .fraction .ensures, c .if1 .taken),
-    )
+loop-again c = let h = below (c .before .before) in (omega arith, turn (c .before) ∙ simp (c .if1 .taken))
 
 add-sample-remainder : tie.Need-add-sample-remainder Inv-loop μ-loop
 add-sample-remainder c = let h = below (c .before .before) in omega arith
@@ -73,12 +81,8 @@ sample-remainder-requires c κs = let h = below (c .before .before) in search ne
 
 returns-2 : tie.Need-returns-2 Inv-loop μ-loop
 returns-2 c =
-    let k = c .before .before .before in
-    let l = k .before .before .before .before .loop in
-    let a = k .before .before .before .before .before .before .args in
-    c .sample-remainder .ensures (a .pi)
-    ∙ sym (l .inv .1 ∙ read-at (searchRule (a .q) (a .span) (a .pi)) (a .tape .now) (l .d) (k .before .w .given .0 .0) (firstRun (l .d)) (l .d) (there k)
-    ∙ simp (← c .before .before .fraction .ensures, c .before .if1 .left))
+    let a = c .before .before .before .before .before .before .before .before .before .args in
+    c .sample-remainder .ensures (a .pi) ∙ sym (turn (c .before .before) ∙ simp (c .before .if1 .left))
 
 pub sample-search-spec : {M : Type 1} → statement M
 sample-search-spec =

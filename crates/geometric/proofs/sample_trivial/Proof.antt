@@ -2,12 +2,14 @@
 -- whole reading gives. Assumes nothing.
 use borrow.Author.Needs.{needs}
 use mathlib.Core.Path.{_≡_, refl, sym, _∙_}
-use Prim.Native.Nat.{_≤_, _-_, zero-le}
+use mathlib.Core.Bool.{cond}
+use Prim.Native.Nat.{_≤_, _<_, _+_, _-_, zero-le}
 use native.Mathlib.Omega.{arith}
 use lib.ListN.{length, drop}
+use lib.Ieee.{le}
 use Rattle.words.specs.declared.Word.the-variants.{Is}
 use Rattle.words.specs.Words.{wordAt}
-use Rattle.words.specs.Rule.{more, read, reading}
+use Rattle.words.specs.Rule.{done, more, read, reading}
 use Rattle.words.proofs.Tape.{word-there}
 use Rattle.words.proofs.Reading.{read-done, read-at, read-end}
 use Rattle.geometric.specs.Geometric.{trivialRule}
@@ -38,6 +40,9 @@ returns c =
     let a = c .before .before .before .before .before .args in
     sym (l .inv .1 ∙ read-end (trivialRule (a .p)) (a .tape .now) (l .failures) (l .failures) (l .failures) (sym (c .before .before .word-at .ensures) ∙ c .enum-told .given .1))
 
+add-used : tie.Need-add-used Inv-loop μ-loop
+add-used c = search needs
+
 fraction-requires : tie.Need-fraction-requires Inv-loop μ-loop
 fraction-requires c κs = search needs
 
@@ -45,35 +50,33 @@ fraction-requires c κs = search needs
 there : (c : tie.After-known-told Inv-loop μ-loop) → wordAt (c .before .before .before .before .before .before .args .tape .now) (c .before .before .before .before .loop .failures) ≡ Is (c .before .w .given .0 .0)
 there c = sym (c .before .before .before .word-at .ensures) ∙ c .before .w .given .1
 
-add-t10 : tie.Need-add-t10 Inv-loop μ-loop
-add-t10 c = search needs
+-- a turn has read its fraction, and stands before its judgement
+turn : (c : tie.After-fraction Inv-loop μ-loop) →
+    let l = c .before .before .before .before .before .loop in
+    let a = c .before .before .before .before .before .before .before .args in
+    reading (trivialRule (a .p)) (a .tape .now)
+    ≡ read (trivialRule (a .p)) (drop (l .failures + 1) (a .tape .now)) (cond (le (c .fraction .result) (a .p)) (done (l .failures)) (more (l .failures + 1))) (l .failures + 1)
+turn c =
+    let k = c .before in
+    let l = k .before .before .before .before .loop in
+    let a = k .before .before .before .before .before .before .args in
+    l .inv .1 ∙ read-at (trivialRule (a .p)) (a .tape .now) (l .failures) (k .before .w .given .0 .0) (l .failures) (l .failures) (there k)
+    ∙ simp (← c .fraction .ensures)
 
 returns-2 : tie.Need-returns-2 Inv-loop μ-loop
 returns-2 c =
-    let k = c .before .before in
-    let l = k .before .before .before .before .loop in
-    let a = k .before .before .before .before .before .before .args in
-    sym (l .inv .1 ∙ read-at (trivialRule (a .p)) (a .tape .now) (l .failures) (k .before .w .given .0 .0) (l .failures) (l .failures) (there k)
-    ∙ simp (← c .before .fraction .ensures, c .if1 .taken, read-done (trivialRule (a .p))))
+    let a = c .before .before .before .before .before .before .before .before .args in
+    sym (turn (c .before) ∙ simp (c .if1 .taken, read-done (trivialRule (a .p))))
 
-add-failures : tie.Need-add-failures Inv-loop μ-loop
-add-failures c = search needs
+-- and so far the tape went on
+below : (c : tie.After-known-told Inv-loop μ-loop) → c .before .before .before .before .loop .failures < length (c .before .before .before .before .before .before .args .tape .now)
+below c = word-there _ _ _ (there c) .0
 
 loop-less : tie.Need-loop-less Inv-loop μ-loop
-loop-less c =
-    let k = c .before .before in
-    let h = word-there _ _ _ (there k) .0 in omega arith
+loop-less c = let h = below (c .before .before) in omega arith
 
 loop-again : tie.Need-loop-again Inv-loop μ-loop
-loop-again c =
-    let k = c .before .before in
-    let l = k .before .before .before .before .loop in
-    let a = k .before .before .before .before .before .before .args in
-    let h = word-there (a .tape .now) (l .failures) (k .before .w .given .0 .0) (there k) .0 in (
-      omega arith,
-      l .inv .1 ∙ read-at (trivialRule (a .p)) (a .tape .now) (l .failures) (k .before .w .given .0 .0) (l .failures) (l .failures) (there k)
-          ∙ simp (← c .before .fraction .ensures, c .if1 .left),
-    )
+loop-again c = let h = below (c .before .before) in (omega arith, turn (c .before) ∙ simp (c .if1 .left))
 
 pub sample-trivial-spec : {M : Type 1} → statement M
 sample-trivial-spec =
@@ -86,9 +89,8 @@ sample-trivial-spec =
     enum-known-w
     enum-told
     returns
+    add-used
     fraction-requires
-    add-t10
     returns-2
-    add-failures
     loop-less
     loop-again)

@@ -79,8 +79,8 @@ loop-again c =
     let e = sym (c .before .before .before .before .word-at2 .ensures) ∙ c .before .before .w .given .1 in
     (word-there (a .tape .now) (l .result + 1) w e .0, l .inv .1 ∙ simp (c .before .before .before .before .before .loop-test .taken) (read-at (knuthRule (a .exp-lambda)) (a .tape .now) (l .result + 1) w (product (l .p) (l .result)) (l .result + 1) e ∙ simp (← c .fraction2 .ensures)))
 
-add-t15 : tie.Need-add-t15 Inv-loop μ-loop
-add-t15 c = search needs
+add-used : tie.Need-add-used Inv-loop μ-loop
+add-used c = search needs
 
 returns-3 : tie.Need-returns-3 Inv-loop μ-loop
 returns-3 c =
@@ -109,5 +109,5 @@ knuth-method-spec =
     add-result
     loop-less
     loop-again
-    add-t15
+    add-used
     returns-3)
