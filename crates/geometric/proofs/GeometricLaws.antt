@@ -1,6 +1,6 @@
 -- Laws of the geometric draw: what 01 says of module 3 beside the rules themselves. Assumes nothing.
 use mathlib.Core.Path.{_≡_, refl, sym, ap, ap₂, _∙_, subst}
-use mathlib.Core.Bool.{Bool, true, false, cond}
+use mathlib.Core.Bool.{Bool, true, false, true≢false, cond}
 use mathlib.Core.List.{List}
 use mathlib.Core.Logic.{_⊎_, inl, inr, _↔_}
 use Prim.Native.Nat.{ℕ, suc, _+_, _*_, _-_, _%_, _^_, _≤_, _<_}
@@ -11,7 +11,7 @@ use borrow.Author.Count.{below-none, below-more}
 use lib.ListN.{length, take, getD}
 use lib.IntN.{pos}
 use lib.Ieee.{Float, nan, fin, binary64, round, lt, le, ofBits}
-use Rattle.words.specs.Words.{mostWords, fractionOf}
+use Rattle.words.specs.Words.{mostWords, ratio, fractionOf}
 use Rattle.words.specs.Outcome.{Outcome, drawn, refused}
 use Rattle.words.specs.Rule.{done, more, Rule, reading, Local}
 use Rattle.words.specs.Refusals.{First}
@@ -20,7 +20,7 @@ use Rattle.words.proofs.Reading.{refused-not-drawn, reading-used, reading-short
 use Rattle.words.proofs.Keeping.{After, after-cond, reading-keeps}
 use Rattle.words.proofs.Locality.{reading-local, cond-local, const-local}
 use Rattle.words.proofs.Drawing.{accepted-within, accepted-reading, draw-exactly, draw-local}
-use Rattle.geometric.specs.Power.{whole, power}
+use Rattle.geometric.specs.Power.{power}
 use Rattle.geometric.specs.Squares.{squares}
 use Rattle.geometric.specs.Geometric.{isProbability, isLarge, qOf, isNever, trivialRule, Search, firstRun, remainderWord, acceptance, searching, searchRule, geometricReading, probabilityRefusals, geometric}
 use Rattle.geometric.proofs.Squarings.{span-bounds}
@@ -32,7 +32,7 @@ pub nan-not-probability : isProbability nan ≡ false
 unfolding isProbability le round
 nan-not-probability = refl
 
-pub probability-ends : (isProbability (fin true 0 (pos 0)) ≡ true) × (isProbability (whole 0) ≡ true) × (isProbability (whole 1) ≡ true)
+pub probability-ends : (isProbability (fin true 0 (pos 0)) ≡ true) × (isProbability (ratio 0 1) ≡ true) × (isProbability (ratio 1 1) ≡ true)
 unfolding isProbability le round
 probability-ends = (refl, refl, refl)
 
@@ -233,6 +233,31 @@ module _ (p : Float) (ws : List ℕ) (c u : ℕ) (e : geometric p ws ≡ drawn c
   pub geometric-used : u ≤ mostWords
   unfolding geometric
   geometric-used = le-trans (drew .1) (accepted-within ws (probabilityRefusals p) (geometricReading p ws) c u e)
+
+  -- by which of the three, as p decides
+  pub geometric-trivial : isLarge p ≡ true → Failures p ws c u
+  geometric-trivial l = go geometric-drew
+    where
+      go : Drew p ws c u → Failures p ws c u
+      go (trivially k f) = f
+      go (never k n x y) = absurd (true≢false (sym l ∙ k))
+      go (bySearch k n s) = absurd (true≢false (sym l ∙ k))
+
+  pub geometric-never : isLarge p ≡ false → isNever p ≡ true → (c ≡ 2 ^ 64 - 1) × (u ≡ 0)
+  geometric-never l o = go geometric-drew
+    where
+      go : Drew p ws c u → (c ≡ 2 ^ 64 - 1) × (u ≡ 0)
+      go (trivially k f) = absurd (true≢false (sym k ∙ l))
+      go (never k n x y) = (x, y)
+      go (bySearch k n s) = absurd (true≢false (sym o ∙ n))
+
+  pub geometric-search : isLarge p ≡ false → isNever p ≡ false → Searched (qOf p) (2 ^ squares (qOf p) .k) (squares (qOf p) .pi) ws c u
+  geometric-search l o = go geometric-drew
+    where
+      go : Drew p ws c u → Searched (qOf p) (2 ^ squares (qOf p) .k) (squares (qOf p) .pi) ws c u
+      go (trivially k f) = absurd (true≢false (sym k ∙ l))
+      go (never k n x y) = absurd (true≢false (sym n ∙ o))
+      go (bySearch k n s) = s
 
   -- below 2^51, or 2^64 - 1
   pub geometric-count : (c < 2 ^ 51) ⊎ (c ≡ 2 ^ 64 - 1)

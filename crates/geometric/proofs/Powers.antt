@@ -25,7 +25,7 @@ enough : (n h : ℕ) (r a : Float) → h ≤ n → halved n r a h ≡ halved h r
 enough n h r a p = le-ind (λ (m : ℕ). halved m r a h ≡ halved h r a h) refl (λ m k e. one-more m h r a k ∙ e) n p
 
 repeated : (b h : ℕ) (r a : Float) → b / 2 ≡ h → 0 < h → halved b (oddTimes r a b) a h ≡ powerOf (oddTimes r a b) (mul binary64 a a) h
-unfolding powerOf
+unfolding powerOf halved
 repeated zero h r a e p = absurd (omega arith)
 repeated (suc b) zero r a e p = absurd (omega arith)
 repeated (suc b) (suc h) r a e p =

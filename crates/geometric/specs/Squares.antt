@@ -1,11 +1,11 @@
 -- 01, module 3: q squared again and again. Assumes nothing.
 use Prim.Native.Nat.{ℕ, zero, suc}
 use mathlib.Core.Bool.{Bool, true, false}
-use lib.Ieee.{Float, binary64, round, mul, lt}
+use lib.Ieee.{Float, binary64, mul, lt}
+use Rattle.words.specs.Words.{ratio}
 
 abbrev pub half : Float
-unfolding round
-half = round binary64 false 1 2
+half = ratio 1 2
 
 -- the number of squarings, and what they come to
 pub record Squares : Type 0 where
@@ -14,7 +14,6 @@ pub record Squares : Type 0 where
 
 -- x is what k squarings came to, the Bool says whether x is above 0.5, and n squarings more are allowed
 unfoldable pub squaring : ℕ → Bool → ℕ → Float → Squares
-unfolding mul lt
 squaring zero false k x = record { k = k; pi = x }
 squaring zero true k x = record { k = k; pi = x }
 squaring (suc n) false k x = record { k = k; pi = x }
@@ -22,5 +21,4 @@ squaring (suc n) true k x = squaring n (lt half (mul binary64 x x)) (suc k) (mul
 
 -- q is squared at least once, until the result is no longer above 0.5, and at most 31 times
 unfoldable pub squares : Float → Squares
-unfolding squaring
 squares q = squaring 30 (lt half (mul binary64 q q)) 1 (mul binary64 q q)

@@ -5,7 +5,7 @@ use mathlib.Core.List.{List, []}
 use lib.Dec.{eqb}
 use lib.Count.{leadingZeros}
 use Rattle.words.specs.Outcome.{Outcome}
-use Rattle.words.specs.Rule.{Step, done, more, Rule, read, reading}
+use Rattle.words.specs.Rule.{Step, done, more, Rule, reading}
 use Rattle.words.specs.Draw.{draw}
 
 -- the leading zeros of each word read are added to n; the first word that isn't 0 is the last
@@ -17,5 +17,4 @@ standardRule = record { start = more 0; step = addZeros; short = λ s. 10 }
 
 -- the draw over the words ws; it has no parameters
 unfoldable pub standardGeometric : List ℕ → Outcome ℕ
-unfolding read leadingZeros
 standardGeometric ws = draw ws [] (reading standardRule ws)

@@ -9,7 +9,7 @@ use native.Mathlib.Omega.{arith}
 use borrow.Author.Count.{below-none, below-more}
 use lib.ListN.{length, take, getD}
 use lib.Ieee.{Float, nan, binary64, round, mul, lt, le, ofBits}
-use Rattle.words.specs.Words.{mostWords, fractionOf}
+use Rattle.words.specs.Words.{mostWords, ratio, fractionOf}
 use Rattle.words.specs.Outcome.{drawn, refused}
 use Rattle.words.specs.Rule.{done, more, reading}
 use Rattle.words.specs.Refusals.{First}
@@ -25,7 +25,7 @@ pub nan-outside : inRange nan ≡ false
 unfolding inRange le round
 nan-outside = refl
 
-pub range-ends : (inRange (round binary64 false 1 (2 ^ 18)) ≡ true) × (inRange (round binary64 false 1 1) ≡ true)
+pub range-ends : (inRange (ratio 1 (2 ^ 18)) ≡ true) × (inRange (ratio 1 1) ≡ true)
 unfolding inRange le round
 range-ends = (refl, refl)
 

@@ -1,11 +1,11 @@
 -- 01, module 2: KnuthMethod, with the threshold handed in. Assumes nothing.
 use Prim.Native.Nat.{ℕ, _+_, _^_}
-use mathlib.Core.Bool.{Bool, false, not, _&&_, cond}
+use mathlib.Core.Bool.{Bool, not, _&&_, cond}
 use mathlib.Core.List.{List, [], _∷_}
-use lib.Ieee.{Float, binary64, round, mul, lt, le}
-use Rattle.words.specs.Words.{fractionOf}
+use lib.Ieee.{Float, binary64, mul, lt, le}
+use Rattle.words.specs.Words.{ratio, fractionOf}
 use Rattle.words.specs.Outcome.{Outcome}
-use Rattle.words.specs.Rule.{Step, done, more, Rule, read, reading}
+use Rattle.words.specs.Rule.{Step, done, more, Rule, reading}
 use Rattle.words.specs.Refusals.{Condition, _on_}
 use Rattle.words.specs.Draw.{draw}
 
@@ -28,8 +28,7 @@ knuthRule T = record { start = more none; step = multiply T; short = λ s. 10 }
 
 -- 2^-18 ≤ T ≤ 1; a NaN is not
 unfoldable pub inRange : Float → Bool
-unfolding round le
-inRange T = le (round binary64 false 1 (2 ^ 18)) T && le T (round binary64 false 1 1)
+inRange T = le (ratio 1 (2 ^ 18)) T && le T (ratio 1 1)
 
 -- the parameter's refusal: ThresholdOutside
 abbrev pub thresholdRefusals : Float → List Condition
@@ -37,5 +36,4 @@ thresholdRefusals T = 7 on not (inRange T) ∷ []
 
 -- the draw with the threshold T over the words ws
 unfoldable pub poisson : Float → List ℕ → Outcome ℕ
-unfolding read
 poisson T ws = draw ws (thresholdRefusals T) (reading (knuthRule T) ws)

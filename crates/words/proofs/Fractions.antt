@@ -6,10 +6,10 @@ use native.Mathlib.Nat.{lt-of-lt-of-le, mul-assoc, mul-le-mul-right}
 use native.Mathlib.Omega.{arith}
 use lib.Dec.{T, lit≤}
 use lib.Pow.{pow-pos, pow-mono, shl-lt}
-use lib.Ieee.{binary64, emax, low, round, le}
+use lib.Ieee.{binary64, emax, low, le}
 use lib.Ieee.Exact.{HasValue, round-exact}
 use lib.Ieee.Order.{round-mono}
-use Rattle.words.specs.Words.{fractionOf}
+use Rattle.words.specs.Words.{ratio, fractionOf}
 
 module _ (w : ℕ) where
   -- nothing is rounded away
@@ -21,10 +21,10 @@ module _ (w : ℕ) where
       let fine : n * 2 ^ 1021 < 2 ^ (low binary64 + suc (emax binary64)) = lt-of-lt-of-le (shl-lt 53 1021 small) (pow-mono {i = 53 + 1021} {j = low binary64 + suc (emax binary64)} (lit≤ tt)) in
       round-exact binary64 false n (2 ^ 53) n 1021 (pow-pos 53) small fine (sym (mul-assoc n (2 ^ 1021) (2 ^ 53)))
 
-  pub fraction-low : T (le (round binary64 false 0 1) (fractionOf w))
+  pub fraction-low : T (le (ratio 0 1) (fractionOf w))
   unfolding fractionOf
   fraction-low = round-mono binary64 0 1 (w / 2048) (2 ^ 53) (pow-pos 0) (pow-pos 53) zero-le
 
-  pub fraction-high : w < 2 ^ 64 → T (le (fractionOf w) (round binary64 false (2 ^ 53 - 1) (2 ^ 53)))
+  pub fraction-high : w < 2 ^ 64 → T (le (fractionOf w) (ratio (2 ^ 53 - 1) (2 ^ 53)))
   unfolding fractionOf
   fraction-high h = round-mono binary64 (w / 2048) (2 ^ 53) (2 ^ 53 - 1) (2 ^ 53) (pow-pos 53) (pow-pos 53) (let b : w / 2048 ≤ 2 ^ 53 - 1 = omega arith in mul-le-mul-right (2 ^ 53) b)

@@ -20,7 +20,10 @@ tooLong ws = ltb mostWords (length ws)
 unfoldable pub wordAt : List ℕ → ℕ → Word
 wordAt ws i = cond (ltb i (length ws)) (Is (getD ws i 0)) End
 
--- floor(w / 2048) / 2^53 as a binary64; of a 64-bit word nothing is rounded away (`fraction-exact`)
+-- a / b as a binary64, rounded once
+abbrev pub ratio : ℕ → ℕ → Float
+ratio a b = round binary64 false a b
+
+-- floor(w / 2048) / 2^53; of a 64-bit word nothing is rounded away (`fraction-exact`)
 unfoldable pub fractionOf : ℕ → Float
-unfolding round
-fractionOf w = round binary64 false (w / 2048) (2 ^ 53)
+fractionOf w = ratio (w / 2048) (2 ^ 53)
