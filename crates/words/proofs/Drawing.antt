@@ -1,20 +1,20 @@
 -- Laws of a draw's outcome, once for every rule and every list of parameters' refusals. Assumes nothing.
-use mathlib.Core.Path.{_≡_, refl, sym, ap, _∙_, subst}
+use mathlib.Core.Path.{_≡_, refl, sym, ap, _∙_}
 use mathlib.Core.Bool.{Bool, true, false, cond}
 use mathlib.Core.List.{List, [], _∷_, _++_}
-use mathlib.Core.Logic.{_⊎_, inl, inr, _↔_}
+use mathlib.Core.Logic.{inl, _↔_}
 use Prim.Native.Nat.{ℕ, _≤_}
 use lib.Dec.{eqb}
 use lib.ListN.{length, take}
 use borrow.Author.Tests.{eq-eqb, eqb-true}
 use Rattle.words.specs.Words.{mostWords, tooLong}
 use Rattle.words.specs.Outcome.{Outcome, drawn, refused}
-use Rattle.words.specs.Rule.{Rule, reading, Local}
+use Rattle.words.specs.Rule.{Local}
 use Rattle.words.specs.Refusals.{Condition, _on_, given, First}
 use Rattle.words.specs.Draw.{endsBy, refusals, draw}
 use Rattle.words.proofs.Tape.{within-limit, limit-within}
-use Rattle.words.proofs.Reading.{refused-not-drawn, refused-from, used-from}
-use Rattle.words.proofs.Exactly.{SomeFirst, exactly, some-after}
+use Rattle.words.proofs.Reading.{refused-not-drawn}
+use Rattle.words.proofs.Exactly.{exactly, some-after}
 
 -- the last condition of a draw speaks of the reading itself, and changes nothing
 pub ends-same : {A : Type 0} (o : Outcome A) → given (10 on endsBy 10 o ∷ []) o ≡ o

@@ -5,9 +5,8 @@ use mathlib.Core.Bool.{Bool, true, false, cond}
 use mathlib.Core.List.{List, [], _∷_, _++_}
 use mathlib.Core.Logic.{_⊎_, inl, inr, _↔_}
 use Prim.Native.Nat.{ℕ}
-use native.Mathlib.Omega.{arith}
-use Rattle.words.specs.Outcome.{Outcome, drawn, refused}
-use Rattle.words.specs.Refusals.{Condition, _on_, given, First}
+use Rattle.words.specs.Outcome.{Outcome, refused}
+use Rattle.words.specs.Refusals.{Condition, given, First}
 
 same-number : {A : Type 0} (m n : ℕ) → _≡_ {A = Outcome A} (refused m) (refused n) → m ≡ n
 same-number m n e = cc

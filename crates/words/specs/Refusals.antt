@@ -5,7 +5,7 @@ use mathlib.Core.Bool.{Bool, true, false, cond}
 use mathlib.Core.List.{List, [], _∷_}
 use mathlib.Core.Logic.{_⊎_}
 use mathlib.Core.Path.{_≡_}
-use Rattle.words.specs.Outcome.{Outcome, drawn, refused}
+use Rattle.words.specs.Outcome.{Outcome, refused}
 
 -- a refusal's number and whether its condition holds
 pub record Condition : Type 0 where

@@ -63,7 +63,7 @@ pub fn number(refusal: Refusal) -> u32
 }
 
 // The most words that a tape may have.
-pub const MOST_WORDS: usize = 1_048_576;
+const MOST_WORDS: usize = 1_048_576;
 
 // Whether the tape has more words than a tape may have.
 pub fn too_long(tape: &[u64]) -> bool

@@ -3,7 +3,6 @@ use borrow.Author.Needs.{needs}
 use mathlib.Core.Path.{sym, ap, _∙_}
 use mathlib.Core.List.{[], _∷_}
 use lib.Ieee.{ofBits, round}
-use Rattle.words.specs.Outcome.{Outcome}
 use Rattle.words.specs.Refusals.{_on_, given}
 use Rattle.words.proofs.Tape.{within-limit}
 use Rattle.words.proofs.Drawing.{ends-same}

@@ -1,8 +1,8 @@
 -- `geometric::sample_remainder` meets its contract. The loop's invariant: the search from here gives what the search from `at` gives.
 -- Assumes nothing.
 use borrow.Author.Needs.{needs}
-use mathlib.Core.Path.{_≡_, refl, sym, _∙_, subst}
-use Prim.Native.Nat.{ℕ, _<_, _+_, _-_, _%_}
+use mathlib.Core.Path.{_≡_, refl, sym, _∙_}
+use Prim.Native.Nat.{_+_, _-_, _%_}
 use native.Mathlib.Nat.{mod-lt, mul-le-mul}
 use native.Mathlib.Omega.{arith}
 use lib.ListN.{length, drop}

@@ -1,12 +1,11 @@
 -- `geometric::sample_valid` meets its contract. Assumes nothing.
 use borrow.Author.Needs.{needs}
-use mathlib.Core.Path.{_≡_, refl, sym, ap, _∙_, subst}
-use mathlib.Core.Bool.{true, false}
+use mathlib.Core.Path.{_≡_, sym, _∙_, subst}
+use mathlib.Core.Bool.{false}
 use Prim.Native.Nat.{ℕ, _^_, _≤_, _<_}
-use lib.Ieee.{Float, lt, ofBits, round}
-use Rattle.words.specs.Rule.{reading}
-use Rattle.geometric.specs.Squares.{half, squares}
-use Rattle.geometric.specs.Geometric.{isLarge, qOf, isNever, searchRule, geometricReading, isTooRare}
+use lib.Ieee.{ofBits, round}
+use Rattle.geometric.specs.Squares.{squares}
+use Rattle.geometric.specs.Geometric.{isLarge, qOf, isNever, geometricReading, isTooRare}
 use Rattle.geometric.proofs.Squarings.{span-bounds}
 use Rattle.geometric.proofs.sample_valid.Statement.{statement}
 use Rattle.geometric.proofs.sample_valid.Tie as tie
