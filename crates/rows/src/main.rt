@@ -1,8 +1,10 @@
-// Draws of modules 1 to 3 on both sides of each edge, a line each: what is drawn, then the count and the words used, or the refusal.
+// Fractions of words, each with its bits, and draws of modules 1 to 3 on both sides of each edge, a line each: what is drawn, then the
+// count and the words used, or the refusal.
 use libc::STDOUT_FILENO;
 use words::Answer;
 
 fn main() {
+    fraction_rows();
     poisson_rows();
     large_rows();
     small_rows();
@@ -27,6 +29,39 @@ fn line(label: &[u8], answer: Answer) {
         }
     }
     io::write_all(STDOUT_FILENO, b"\n");
+}
+
+// Writes a line: the word, and the bits of its fraction.
+fn fraction_line(w: u64) {
+    io::write_all(STDOUT_FILENO, b"fraction 0x");
+    io::print_hex(STDOUT_FILENO, w, 16);
+    io::write_all(STDOUT_FILENO, b" 0x");
+    io::print_hex(STDOUT_FILENO, fraction_bits(w), 16);
+    io::write_all(STDOUT_FILENO, b"\n");
+}
+
+fn fraction_bits(w: u64) -> u64 {
+    f64::to_bits(words::fraction(w))
+}
+
+// The answers recorded for these are those of a published rand.
+fn fraction_rows() {
+    fraction_line(0x0);
+    fraction_line(0x1);
+    fraction_line(0x7ff);
+    fraction_line(0x800);
+    fraction_line(0x801);
+    fraction_line(0xfff);
+    fraction_line(0x1000);
+    fraction_line(0x8000_0000_0000_0000);
+    fraction_line(0x8000_0000_0000_0800);
+    fraction_line(0x7fff_ffff_ffff_ffff);
+    fraction_line(0x1234_5678_9abc_def0);
+    fraction_line(0xc000_0000_0000_0000);
+    fraction_line(0xcd4e_86cc_7f73_b000);
+    fraction_line(0xffff_ffff_ffff_f7ff);
+    fraction_line(0xffff_ffff_ffff_f800);
+    fraction_line(0xffff_ffff_ffff_ffff);
 }
 
 // The three fractions are 0.75 each.
