@@ -133,13 +133,13 @@ module _ (q : Float) (span : ℕ) (pi : Float) (ws : List ℕ) where
   try-keeps : (d m u : ℕ) → Kept (acceptance d m) u → After Kept Searched (searching q span pi (acceptance d m) (getD ws u 0)) (suc u)
   unfolding Kept isAccepted
   try-keeps d m u k =
-      after-cond Kept Searched (lt (fractionOf (getD ws u 0)) (power q m)) (done (d * span + m)) (more (remainderWord d)) (suc u) take again
+      after-cond Kept Searched (lt (fractionOf (getD ws u 0)) (power q m)) (done (d * span + m)) (more (remainderWord d)) (suc u) accept again
     where
       here : (b : Bool) → lt (fractionOf (getD ws u 0)) (power q m) ≡ b → isAccepted d (k .0) ≡ b
       here b t = ap₂ (λ (i n : ℕ). lt (fractionOf (getD ws i 0)) (power q n)) (sym (k .1)) (sym (k .3)) ∙ t
 
-      take : lt (fractionOf (getD ws u 0)) (power q m) ≡ true → Searched (d * span + m) (suc u)
-      take t =
+      accept : lt (fractionOf (getD ws u 0)) (power q m) ≡ true → Searched (d * span + m) (suc u)
+      accept t =
           record {
             d = d;
             before = k .0;

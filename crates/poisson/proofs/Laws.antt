@@ -3,11 +3,10 @@ use mathlib.Core.Path.{_≡_, refl, sym, ap, ap₂, _∙_}
 use mathlib.Core.Bool.{true, false}
 use mathlib.Core.List.{List}
 use mathlib.Core.Logic.{_↔_}
-use Prim.Native.Nat.{ℕ, zero, suc, _+_, _*_, _^_, _≤_, _<_}
+use Prim.Native.Nat.{ℕ, zero, suc, _+_, _^_, _≤_, _<_}
 use native.Mathlib.Numerals.{add-one}
 use native.Mathlib.Omega.{arith}
 use borrow.Author.Count.{below-none, below-more}
-use lib.Dec.{lit<}
 use lib.ListN.{length, take, getD}
 use lib.Ieee.{Float, nan, binary64, round, mul, lt, le, ofBits}
 use Rattle.words.specs.Words.{mostWords, ratio, fractionOf}
@@ -33,10 +32,6 @@ range-ends = (refl, refl)
 pub range-past : (inRange (ofBits binary64 0x3ecf_ffff_ffff_ffff) ≡ false) × (inRange (ofBits binary64 0x3ff0_0000_0000_0001) ≡ false)
 unfolding inRange le round ofBits
 range-past = (refl, refl)
-
--- e is below 2.7183, so e^-12 is above 2^-18: the threshold of every lambda between 0 and 12 is in the range
-pub twelve-inside : 27183 ^ 12 < 2 ^ 18 * 10000 ^ 12
-twelve-inside = lit< tt
 
 -- the product of the first n + 1 fractions, multiplied in order
 unfoldable pub productOf : List ℕ → ℕ → Float

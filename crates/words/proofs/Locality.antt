@@ -34,7 +34,7 @@ module _ {S A : Type 0} (r : Rule S A) where
   unfolding Local
   reading-local ws vs a v e same = from ws vs (r .start) 0 a v e (simp sub-zero same)
 
-  -- Exhausted comes neither early nor late: with fewer words than it uses, the same reading is refused.
+  -- Exhausted comes in time: with fewer words than it uses, the same reading is refused.
   pub reading-shorter : (ws : List ℕ) (a : A) (u n : ℕ) → reading r ws ≡ drawn a u → n < u → (k : ℕ) × (reading r (take n ws) ≡ refused k)
   unfolding Local
   reading-shorter ws a u n e h = go (reading r (take n ws)) refl
