@@ -30,7 +30,7 @@ mul-span c = let h = pow-mono {i = c .before .before .loop .k} {j = 31} (omega a
 
 -- in a turn fewer than 31 squarings were made
 less : (c : tie.Then1 Inv-loop μ-loop) → c .before .before .loop .k < 31
-less c = ltb-true _ _ (c .if1 .taken)
+less c = omega (arith, ltb-true)
 
 loop-less : tie.Need-loop-less Inv-loop μ-loop
 loop-less c = let h = less c in omega arith
@@ -53,8 +53,7 @@ came k span pi s e same = (e ∙ sym (ap (λ (t : Squares). 2 ^ t .k) same), sym
 returns : tie.Need-returns Inv-loop μ-loop
 returns c =
     let l = c .before .before .loop in
-    let h = ltb-false (l .k) 31 (c .if1 .left) in
-    let z : 31 - l .k ≡ 0 = omega arith in
+    let z : 31 - l .k ≡ 0 = omega (arith, ltb-false) in
     came (l .k) (l .span) (l .pi) (squares (c .before .before .before .args .q)) (l .inv .2) (l .inv .3 ∙ rw z (squaring-last (lt half (l .pi)) (l .k) (l .pi)))
 
 returns-2 : tie.Need-returns-2 Inv-loop μ-loop
