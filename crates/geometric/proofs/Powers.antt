@@ -19,7 +19,7 @@ unfolding halved
 one-more zero zero r a p = refl
 one-more zero (suc h) r a p = absurd (not-suc-le-zero p)
 one-more (suc n) zero r a p = refl
-one-more (suc n) (suc h) r a p = one-more n (suc h / 2) (oddTimes r (mul binary64 a a) (suc h)) (mul binary64 a a) (omega arith)
+one-more (suc n) (suc h) r a p = one-more n (suc h / 2) _ _ (omega arith)
 
 enough : (n h : ℕ) (r a : Float) → h ≤ n → halved n r a h ≡ halved h r a h
 enough n h r a p = le-ind (λ (m : ℕ). halved m r a h ≡ halved h r a h) refl (λ m k e. one-more m h r a k ∙ e) n p

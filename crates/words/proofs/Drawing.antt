@@ -2,7 +2,7 @@
 use mathlib.Core.Path.{_≡_, refl, sym, ap, _∙_}
 use mathlib.Core.Bool.{Bool, true, false, cond}
 use mathlib.Core.List.{List, [], _∷_, _++_}
-use mathlib.Core.Logic.{inl, _↔_}
+use mathlib.Core.Logic.{inl, inr, _↔_}
 use Prim.Native.Nat.{ℕ, _≤_}
 use lib.Dec.{eqb}
 use lib.ListN.{length, take}
@@ -14,7 +14,15 @@ use Rattle.words.specs.Refusals.{Condition, _on_, given, First}
 use Rattle.words.specs.Draw.{endsBy, refusals, draw}
 use Rattle.words.proofs.Tape.{within-limit, limit-within}
 use Rattle.words.proofs.Reading.{refused-not-drawn}
-use Rattle.words.proofs.Exactly.{exactly, some-after}
+use Rattle.words.proofs.Exactly.{first-given, first-before, exactly, some-after}
+
+-- The order for a draw (01, 'Refusal numbers'): 1 is given before any parameter is looked at, and a parameter's refusal before any word is read.
+module _ {A : Type 0} (ws : List ℕ) (ps : List Condition) (o : Outcome A) where
+  pub limit-first : tooLong ws ≡ true → draw ws ps o ≡ refused 1
+  limit-first e = simp e
+
+  pub parameters-next : tooLong ws ≡ false → (n : ℕ) → First n ps → draw ws ps o ≡ refused n
+  parameters-next e n f = first-given (refusals ws ps o) o n (inr (e, first-before ps (10 on endsBy 10 o ∷ []) n f))
 
 -- the last condition of a draw speaks of the reading itself, and changes nothing
 pub ends-same : {A : Type 0} (o : Outcome A) → given (10 on endsBy 10 o ∷ []) o ≡ o

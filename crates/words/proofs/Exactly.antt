@@ -47,6 +47,12 @@ exactly {A} cs o covered n = (λ e. go e (given-first cs o n e), first-given cs 
         let same : s .0 ≡ n = same-number {A = A} (s .0) n (sym (first-given cs o (s .0) (s .1)) ∙ e) in
         subst (λ (m : ℕ). First m cs) same (s .1)
 
+-- what holds first in a list holds first whatever comes after it
+pub first-before : (cs ds : List Condition) (n : ℕ) → First n cs → First n (cs ++ ds)
+first-before [] ds n f = absurd f
+first-before (c ∷ cs) ds n (inl h) = inl h
+first-before (c ∷ cs) ds n (inr h) = inr (h .0, first-before cs ds n (h .1))
+
 -- a list has a first where its tail does
 pub some-after : (cs ds : List Condition) → SomeFirst ds → SomeFirst (cs ++ ds)
 some-after [] ds s = s

@@ -18,7 +18,7 @@ first-left [] (suc u) w xs e = let z : _≡_ {A = ℕ} 0 1 = cc in absurd (omega
 first-left (y ∷ ws) zero w xs e = (zero-lt-suc (length ws), cc, cc)
 first-left (y ∷ ws) (suc u) w xs e = let h = first-left ws u w xs e in (suc-le-suc (h .0), h .1, h .2)
 
--- what is drawn is what is drawn
+-- what holds of a draw holds of an equal one
 ends : {A : Type 0} (Q : A → ℕ → Type 0) (d : A) (u : ℕ) → Q d u → (a : A) (v : ℕ) → drawn d u ≡ drawn a v → Q a v
 ends {A} Q d u h a v e =
     let p : d ≡ a = cc in
