@@ -5,8 +5,9 @@ use mathlib.Core.Bool.{Bool, true, false, cond}
 use mathlib.Core.List.{List, [], _∷_, _++_}
 use mathlib.Core.Logic.{_⊎_, inl, inr, _↔_}
 use Prim.Native.Nat.{ℕ}
-use Rattle.words.specs.Outcome.{Outcome, refused}
-use Rattle.words.specs.Refusals.{Condition, given, First}
+use Rattle.words.specs.Outcome.{Outcome, drawn, refused}
+use Rattle.words.specs.Refusals.{Condition, given, First, NoneHolds}
+use Rattle.words.proofs.Reading.{refused-not-drawn}
 
 same-number : {A : Type 0} (m n : ℕ) → _≡_ {A = Outcome A} (refused m) (refused n) → m ≡ n
 same-number m n e = cc
@@ -61,3 +62,30 @@ some-after (c ∷ cs) ds s = go (some-after cs ds s) (c .holds) refl
     go : SomeFirst (cs ++ ds) → (b : Bool) → c .holds ≡ b → SomeFirst ((c ∷ cs) ++ ds)
     go rest true t = (c .number, inl (t, refl))
     go rest false t = (rest .0, inr (t, rest .1))
+
+-- where no condition of a list holds, what comes after it decides
+pub none-passes : {A : Type 0} (cs ds : List Condition) (o : Outcome A) → NoneHolds cs → given (cs ++ ds) o ≡ given ds o
+none-passes [] ds o h = refl
+none-passes (c ∷ cs) ds o h = simp (h .0) (none-passes cs ds o (h .1))
+
+pub none-before : (cs ds : List Condition) → NoneHolds (cs ++ ds) → NoneHolds cs
+none-before [] ds h = tt
+none-before (c ∷ cs) ds h = (h .0, none-before cs ds (h .1))
+
+-- The law's other half: a call draws exactly where no condition holds and it comes to a draw by itself.
+pub drawn-exactly : {A : Type 0} (cs : List Condition) (o : Outcome A) (a : A) (u : ℕ)
+    → (given cs o ≡ drawn a u) ↔ (NoneHolds cs × (o ≡ drawn a u))
+drawn-exactly {A} cs o a u = (to cs, λ h. from cs (h .0) ∙ h .1)
+  where
+    to : (cs : List Condition) → given cs o ≡ drawn a u → NoneHolds cs × (o ≡ drawn a u)
+    to [] e = (tt, e)
+    to (c ∷ cs) e = go (to cs) (c .holds) refl e
+      where
+        go : (given cs o ≡ drawn a u → NoneHolds cs × (o ≡ drawn a u))
+            → (b : Bool) → c .holds ≡ b → cond b (refused (c .number)) (given cs o) ≡ drawn a u → NoneHolds (c ∷ cs) × (o ≡ drawn a u)
+        go rest true t x = refused-not-drawn (c .number) a u x
+        go rest false t x = let r = rest x in ((t, r .0), r .1)
+
+    from : (cs : List Condition) → NoneHolds cs → given cs o ≡ o
+    from [] h = refl
+    from (c ∷ cs) h = simp (h .0) (from cs (h .1))

@@ -25,3 +25,8 @@ given (c ∷ cs) o = cond (c .holds) (refused (c .number)) (given cs o)
 abbrev pub First : ℕ → List Condition → Type 0
 First n [] = ⊥
 First n (c ∷ cs) = ((c .holds ≡ true) × (c .number ≡ n)) ⊎ ((c .holds ≡ false) × First n cs)
+
+-- no condition of the list holds
+abbrev pub NoneHolds : List Condition → Type 0
+NoneHolds [] = Unit
+NoneHolds (c ∷ cs) = (c .holds ≡ false) × NoneHolds cs

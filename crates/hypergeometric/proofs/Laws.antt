@@ -1,0 +1,82 @@
+-- Laws of the hypergeometric draw: what 01 says of modules 4 and 5 beside the rules themselves. Assumes nothing.
+use mathlib.Core.Path.{_≡_, refl, sym, ap, _∙_, subst}
+use mathlib.Core.List.{List}
+use mathlib.Core.Logic.{_↔_}
+use Prim.Native.Nat.{ℕ, suc, _≤_, _<_, min}
+use native.Mathlib.Nat.{le-trans}
+use native.Mathlib.Omega.{arith}
+use lib.ListN.{length, take, getD}
+use Rattle.words.specs.Words.{mostWords, fractionOf}
+use Rattle.words.specs.Outcome.{drawn, refused}
+use Rattle.words.specs.Rule.{reading}
+use Rattle.words.specs.Refusals.{First}
+use Rattle.words.specs.Draw.{refusals}
+use Rattle.words.proofs.Reading.{reading-short}
+use Rattle.words.proofs.Keeping.{reading-keeps}
+use Rattle.words.proofs.Locality.{reading-local}
+use Rattle.words.proofs.Drawing.{accepted-passed, accepted-reading, draw-exactly, draw-local}
+use Rattle.hypergeometric.specs.Reduction.{populationCap, reduction, InSupport}
+use Rattle.hypergeometric.specs.Inversion.{inverted}
+use Rattle.hypergeometric.specs.Hypergeometric.{setUp, isTaken, trayRefusals, counted, inversionRule, hypergeometric}
+use Rattle.hypergeometric.specs.RustTest.{rustTakes}
+use Rattle.hypergeometric.proofs.Reducing.{n1+n2, k≤n2, carries}
+use Rattle.hypergeometric.proofs.Walks.{inverted≤}
+use Rattle.hypergeometric.proofs.Settling.{accepted-K, accepted-n, accepted-N}
+use Rattle.hypergeometric.proofs.ModeTest.{mode-agrees}
+
+-- below the cap, the inversion is taken exactly where the Rust takes it
+pub taken-agrees : (N K n : ℕ) → K ≤ N → n ≤ N → N ≤ populationCap
+    → isTaken N (setUp N K n) ≡ rustTakes N (reduction N K n .n1) (reduction N K n .n2) (reduction N K n .k)
+unfolding isTaken setUp
+taken-agrees N K n hK hn h =
+    let r = reduction N K n in
+    let s = n1+n2 N K n hK hn in
+    sym (mode-agrees N (r .n1) (r .n2) (r .k) h (omega arith) (k≤n2 N K n hK hn) (omega arith))
+
+module _ (N K n : ℕ) (ws : List ℕ) where
+  -- each refusal is given exactly on its condition, none earlier holding
+  pub hypergeometric-exactly : (x : ℕ) → (hypergeometric N K n ws ≡ refused x)
+      ↔ First x (refusals ws (trayRefusals N K n) (reading (inversionRule (setUp N K n)) ws))
+  unfolding hypergeometric
+  hypergeometric-exactly =
+      let r = inversionRule (setUp N K n) in
+      draw-exactly ws (trayRefusals N K n) (reading r ws) (reading-short r 10 (λ s. refl) ws)
+
+  module _ (c u : ℕ) (e : hypergeometric N K n ws ≡ drawn c u) where
+    -- used is 1, and the count is that of the first word
+    drew : (u ≡ 1) × (c ≡ counted (setUp N K n) (getD ws 0 0))
+    unfolding hypergeometric
+    drew =
+        let h = setUp N K n in
+        reading-keeps (inversionRule h) ws (λ s v. v ≡ 0) (λ a v. (v ≡ 1) × (a ≡ counted h (getD ws 0 0)))
+        (λ s v l z. (ap suc z, ap (λ (i : ℕ). counted h (getD ws i 0)) z)) refl c u
+        (accepted-reading ws (trayRefusals N K n) (reading (inversionRule h) ws) c u e)
+
+    pub hypergeometric-used : u ≡ 1
+    hypergeometric-used = drew .0
+
+    pub hypergeometric-count : c ≡ counted (setUp N K n) (getD ws 0 0)
+    hypergeometric-count = drew .1
+
+    -- the count lies in max(0, n+K-N) to min(n, K)
+    pub hypergeometric-support : InSupport N K n c
+    unfolding hypergeometric counted setUp
+    hypergeometric-support =
+        let none = accepted-passed ws (trayRefusals N K n) (reading (inversionRule (setUp N K n)) ws) c u e in
+        let h = setUp N K n in
+        subst (InSupport N K n) (sym hypergeometric-count)
+        (carries N K n (accepted-K N K n none) (accepted-n N K n none) .into _ (inverted≤ (h .n1) (h .n2) (h .k) (h .first) (fractionOf (getD ws 0 0))))
+
+    pub hypergeometric-bounds : (u ≤ mostWords) × (c ≤ populationCap)
+    unfolding hypergeometric
+    hypergeometric-bounds =
+        let none = accepted-passed ws (trayRefusals N K n) (reading (inversionRule (setUp N K n)) ws) c u e in
+        let s = hypergeometric-support in
+        (omega (arith, hypergeometric-used), omega (arith, accepted-n N K n none, accepted-N N K n none))
+
+    -- it looks at the words that it reports as used and at no others
+    pub hypergeometric-local : (vs : List ℕ) → length vs ≤ mostWords → take u ws ≡ take u vs → hypergeometric N K n vs ≡ drawn c u
+    unfolding hypergeometric
+    hypergeometric-local vs h same =
+        let r = inversionRule (setUp N K n) in
+        draw-local (reading r) (reading-local r) (trayRefusals N K n) ws vs c u h e same

@@ -1,0 +1,6 @@
+pub mod Reducing
+pub mod Factors
+pub mod Walks
+pub mod Settling
+pub mod ModeTest
+pub mod Laws

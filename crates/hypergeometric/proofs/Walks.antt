@@ -1,0 +1,89 @@
+-- Laws of the inversion: what one turn does, where it ends, and that its whole numbers stay where a float has each of them. Assumes nothing.
+use mathlib.Core.Path.{_≡_, refl, ap}
+use mathlib.Core.Bool.{Bool, true, false}
+use Prim.Native.Nat.{ℕ, zero, suc, _+_, _-_, _*_, _^_, _<_, _≤_, min}
+use native.Mathlib.Nat.{mul-le-mul}
+use native.Mathlib.Numerals.{add-one}
+use native.Mathlib.Omega.{arith}
+use borrow.Author.Count.{below-none, below-more}
+use lib.Ieee.{Float, binary64, sub, lt}
+use lib.Ieee.Exact.{HasValue}
+use Rattle.hypergeometric.specs.First.{asFloat}
+use Rattle.hypergeometric.specs.Inversion.{Small, nextP, walk, inverted}
+use Rattle.hypergeometric.proofs.Factors.{whole-exact}
+
+module _ (n1 n2 k x : ℕ) (s : Small n1 n2 k) (h : x < k) where
+  pub up≤ : (n1 - x) * (k - x) ≤ 2 ^ 40
+  up≤ = mul-le-mul {n₂ = 2 ^ 20} {m₂ = 2 ^ 20} (omega arith) (omega arith)
+
+  pub down≤ : (x + 1) * (n2 - k + 1 + x) ≤ 2 ^ 40
+  down≤ = mul-le-mul {n₂ = 2 ^ 20} {m₂ = 2 ^ 20} (omega arith) (omega arith)
+
+  -- so no step of the inversion casts a whole number that a float would round
+  pub step-exact : HasValue (asFloat ((n1 - x) * (k - x))) false ((n1 - x) * (k - x)) 1
+      × HasValue (asFloat ((x + 1) * (n2 - k + 1 + x))) false ((x + 1) * (n2 - k + 1 + x)) 1
+  step-exact = (whole-exact ((n1 - x) * (k - x)) (omega (arith, up≤)), whole-exact ((x + 1) * (n2 - k + 1 + x)) (omega (arith, down≤)))
+
+module _ (n1 n2 k : ℕ) where
+  pub walk-more : (m x : ℕ) (u p : Float) → x < m
+      → walk n1 n2 k (m - x) true x u p
+      ≡ walk n1 n2 k (m - (x + 1)) (lt (nextP n1 n2 k x p) (sub binary64 u p)) (x + 1) (sub binary64 u p) (nextP n1 n2 k x p)
+  unfolding walk
+  walk-more m x u p h = let e : m - x ≡ suc (m - (x + 1)) = omega arith in rw e
+
+  pub walk-below : (r x : ℕ) (u p : Float) → walk n1 n2 k r false x u p ≡ x
+  unfolding walk
+  walk-below zero x u p = refl
+  walk-below (suc r) x u p = refl
+
+  pub walk-end : (m : ℕ) (b : Bool) (x : ℕ) (u p : Float) → m ≤ x → walk n1 n2 k (m - x) b x u p ≡ x
+  unfolding walk
+  walk-end m b x u p h = let e : m - x ≡ 0 = omega arith in rw e
+
+  walk≤ : (r : ℕ) (b : Bool) (x : ℕ) (u p : Float) → walk n1 n2 k r b x u p ≤ r + x
+  unfolding walk
+  walk≤ zero b x u p = omega arith
+  walk≤ (suc r) false x u p = omega arith
+  walk≤ (suc r) true x u p =
+      let v = sub binary64 u p in
+      let q = nextP n1 n2 k x p in
+      let ih = walk≤ r (lt q v) (x + 1) v q in
+      omega arith
+
+  -- x never passes the bound, whatever rounding leaves of u
+  pub inverted≤ : (p u : Float) → inverted n1 n2 k p u ≤ min n1 k
+  unfolding inverted
+  inverted≤ p u = omega (arith, walk≤ (min n1 k) (lt p u) 0 u p)
+
+-- the u and the p of each x, one step after the other
+module _ (n1 n2 k : ℕ) (p u : Float) where
+  unfoldable pub pAt : ℕ → Float
+  pAt zero = p
+  pAt (suc x) = nextP n1 n2 k x (pAt x)
+
+  unfoldable pub uAt : ℕ → Float
+  uAt zero = u
+  uAt (suc x) = sub binary64 (uAt x) (pAt x)
+
+  -- x is where u first is no longer above p, or the bound: up to it every u was above its p
+  pub record Stops (bound x : ℕ) : Type 0 where
+    pub above : (i : ℕ) → i < x → lt (pAt i) (uAt i) ≡ true
+    pub stop : x < bound → lt (pAt x) (uAt x) ≡ false
+
+  stops-from : (r x : ℕ) (b : Bool) → lt (pAt x) (uAt x) ≡ b → ((i : ℕ) → i < x → lt (pAt i) (uAt i) ≡ true)
+      → Stops (r + x) (walk n1 n2 k r b x (uAt x) (pAt x))
+  unfolding walk pAt uAt
+  stops-from zero x b e h = record { above = h; stop = λ l. absurd (omega arith) }
+  stops-from (suc r) x false e h = record { above = h; stop = λ l. e }
+  stops-from (suc r) x true e h =
+      let ep : pAt (x + 1) ≡ nextP n1 n2 k x (pAt x) = ap pAt (add-one x) in
+      let eu : uAt (x + 1) ≡ sub binary64 (uAt x) (pAt x) = ap uAt (add-one x) in
+      let en : r + (x + 1) ≡ suc r + x = omega arith in
+      let more = below-more (λ (i : ℕ). lt (pAt i) (uAt i) ≡ true) x h e in
+      simp (ep, eu, en) at (stops-from r (x + 1) (lt (pAt (x + 1)) (uAt (x + 1))) refl more)
+
+  pub inverted-stops : Stops (min n1 k) (inverted n1 n2 k p u)
+  unfolding inverted pAt uAt
+  inverted-stops =
+      let e : min n1 k + 0 ≡ min n1 k = omega arith in
+      simp e at (stops-from (min n1 k) 0 (lt p u) refl (below-none (λ (i : ℕ). lt (pAt i) (uAt i) ≡ true)))

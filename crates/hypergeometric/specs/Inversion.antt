@@ -1,0 +1,26 @@
+-- 01, module 5: the inversion, step for step. Assumes nothing.
+use Prim.Native.Nat.{ℕ, zero, suc, _+_, _-_, _*_, _≤_, min}
+use mathlib.Core.Bool.{Bool, true, false}
+use lib.Ieee.{Float, binary64, sub, mul, div, lt}
+use Rattle.hypergeometric.specs.Reduction.{populationCap}
+use Rattle.hypergeometric.specs.First.{asFloat}
+
+-- p is multiplied by (n1-x)(k-x), then divided by (x+1)(n2-k+1+x)
+unfoldable pub nextP : ℕ → ℕ → ℕ → ℕ → Float → Float
+nextP n1 n2 k x p = div binary64 (mul binary64 p (asFloat ((n1 - x) * (k - x)))) (asFloat ((x + 1) * (n2 - k + 1 + x)))
+
+-- While u > p, as the Bool says, and x is below the bound, which is r away: u becomes u - p, p the next p, and x grows by 1.
+unfoldable pub walk : ℕ → ℕ → ℕ → ℕ → Bool → ℕ → Float → Float → ℕ
+walk n1 n2 k zero above x u p = x
+walk n1 n2 k (suc r) false x u p = x
+walk n1 n2 k (suc r) true x u p = walk n1 n2 k r (lt (nextP n1 n2 k x p) (sub binary64 u p)) (x + 1) (sub binary64 u p) (nextP n1 n2 k x p)
+
+-- x from 0 on, with the bound min(n1, k), by the first probability p and the fraction u
+unfoldable pub inverted : ℕ → ℕ → ℕ → Float → Float → ℕ
+inverted n1 n2 k p u = walk n1 n2 k (min n1 k) (lt p u) 0 u p
+
+-- numbers that the reduction can leave, of which every product above is a float's
+pub record Small (n1 n2 k : ℕ) : Type 0 where
+  pub n1≤ : n1 ≤ populationCap
+  pub n2≤ : n2 ≤ populationCap
+  pub k≤ : k ≤ n2
