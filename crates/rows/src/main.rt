@@ -1,5 +1,6 @@
-// Fractions of words, each with its bits, and draws of modules 1 to 3 on both sides of each edge, a line each: what is drawn, then the
+// Fractions of words, each with its bits, and draws of every kind on both sides of each edge, a line each: what is drawn, then the
 // count and the words used, or the refusal.
+use draws::Request;
 use libc::STDOUT_FILENO;
 use words::Answer;
 
@@ -11,6 +12,10 @@ fn main() {
     power_rows();
     rare_rows();
     standard_rows();
+    tray_rows();
+    refused_tray_rows();
+    large_tray_rows();
+    past_support_rows();
 }
 
 // Writes a line: the label, and the answer.
@@ -177,5 +182,108 @@ fn standard_rows() {
     line(
         b"standard, the word 0",
         geometric::sample_standard(&tape[..1]),
+    );
+}
+
+// Writes a line: a hypergeometric draw over one word.
+fn tray(label: &[u8], total: u64, marked: u64, sample: u64, word: u64) {
+    let tape = [word];
+    let request = Request::Hypergeometric {
+        total,
+        marked,
+        sample,
+    };
+    line(label, draws::draw(&tape, request));
+}
+
+// The last two are a word whose count would be 5 if a product and a quotient were cancelled, and the last mode that is drawn.
+fn tray_rows() {
+    tray(b"hypergeometric (0,0,0)", 0, 0, 0, 0xffff_ffff_ffff_ffff);
+    tray(
+        b"hypergeometric (60,24,7)",
+        60,
+        24,
+        7,
+        0x8000_0000_0000_0000,
+    );
+    tray(b"hypergeometric (50,35,10)", 50, 35, 10, 0);
+    tray(b"hypergeometric (2,1,1)", 2, 1, 1, 0x8000_0000_0000_0000);
+    tray(
+        b"hypergeometric (2,1,1), the next fraction",
+        2,
+        1,
+        1,
+        0x8000_0000_0000_0800,
+    );
+    tray(
+        b"hypergeometric (41,16,17)",
+        41,
+        16,
+        17,
+        2_085_749_751_862_417 * 2048,
+    );
+    tray(
+        b"hypergeometric (98,38,24)",
+        98,
+        38,
+        24,
+        0x8000_0000_0000_0000,
+    );
+}
+
+// Each refusal, and which of them wins; no word is read for any of them but the last.
+fn refused_tray_rows() {
+    tray(b"hypergeometric (98,39,24)", 98, 39, 24, 0);
+    tray(b"hypergeometric (5,6,6)", 5, 6, 6, 0);
+    tray(b"hypergeometric (5,5,6)", 5, 5, 6, 0);
+    tray(
+        b"hypergeometric (1048577,1048578,1)",
+        1_048_577,
+        1_048_578,
+        1,
+        0,
+    );
+    tray(b"hypergeometric (1048577,1,1)", 1_048_577, 1, 1, 0);
+    let none: [u64; 1] = [0];
+    let request = Request::Hypergeometric {
+        total: 60,
+        marked: 24,
+        sample: 7,
+    };
+    line(
+        b"hypergeometric (60,24,7), no word",
+        draws::draw(&none[..0], request),
+    );
+}
+
+// The first probability of a large tray: the product runs past the floats' range before its last divisions.
+fn large_tray_rows() {
+    tray(
+        b"hypergeometric (1048576,50,50)",
+        1_048_576,
+        50,
+        50,
+        0xffff_ffff_ffff_ffff,
+    );
+    tray(b"hypergeometric (1048576,51,51)", 1_048_576, 51, 51, 0);
+    tray(
+        b"hypergeometric (1048576,3000,3000)",
+        1_048_576,
+        3000,
+        3000,
+        0,
+    );
+}
+
+// Words that lead the Rust past the support: to 4, to 2^64 - 1 and to 22.
+fn past_support_rows() {
+    tray(b"hypergeometric (9,3,4)", 9, 3, 4, 0xffff_ffff_ffff_ffff);
+    tray(b"hypergeometric (9,3,5)", 9, 3, 5, 0xffff_ffff_ffff_ffff);
+    tray(
+        b"hypergeometric (48,20,22)",
+        48,
+        20,
+        22,
+        0xffff_ffff_ffff_c000,
     );
 }

@@ -1,0 +1,20 @@
+-- The rules give every row of the table, by one computation. Assumes nothing.
+use mathlib.Core.Path.{refl}
+use lib.Count.{leadingZeros}
+use lib.Ieee.{round, lt, le, eq, sub, mul, div, ofInt, ofBits, toBits}
+use Rattle.words.specs.Words.{tooLong, fractionOf}
+use Rattle.words.specs.Rule.{read}
+use Rattle.poisson.specs.Poisson.{inRange}
+use Rattle.geometric.specs.Power.{halved, powerOf}
+use Rattle.geometric.specs.Squares.{squaring, squares}
+use Rattle.geometric.specs.Geometric.{isProbability, isLarge, qOf, isNever, isTooRare, geometricReading}
+use Rattle.hypergeometric.specs.Reduction.{byMarked, bySample, reduction}
+use Rattle.hypergeometric.specs.First.{timesIn, overIn, atFactor, factors, fractionOfFactorials, firstProbability}
+use Rattle.hypergeometric.specs.Inversion.{nextP, walk, inverted}
+use Rattle.hypergeometric.specs.Hypergeometric.{setUp, isTaken, isSpent, trayRefusals, counted}
+use Rattle.draws.specs.Request.{parameterRefusals, readingOf, drawOf}
+use Rattle.draws.specs.Table.{Table}
+
+pub rows : Table
+unfolding drawOf parameterRefusals readingOf round lt le eq sub mul div ofInt ofBits toBits leadingZeros tooLong fractionOf read inRange halved powerOf squaring squares isProbability isLarge qOf isNever isTooRare geometricReading byMarked bySample reduction timesIn overIn atFactor factors fractionOfFactorials firstProbability nextP walk inverted setUp isTaken isSpent trayRefusals counted
+rows = refl

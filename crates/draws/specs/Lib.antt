@@ -1,0 +1,3 @@
+pub mod Request
+pub mod Demand2
+pub mod Table
