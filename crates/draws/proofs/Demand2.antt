@@ -1,9 +1,8 @@
 -- Demand 2 for draws, proved. Assumes nothing.
-use mathlib.Core.Path.{_≡_, refl, sym, ap, _∙_, subst}
+use mathlib.Core.Path.{_≡_, sym, _∙_, subst}
 use mathlib.Core.List.{List}
 use mathlib.Core.Logic.{_↔_}
 use Prim.Native.Nat.{ℕ}
-use Rattle.words.specs.declared.Answer.{Answer}
 use Rattle.words.specs.Outcome.{Outcome, drawn, refused}
 use Rattle.words.specs.Paper.{paper}
 use Rattle.words.proofs.Drawing.{accepted-exactly}
@@ -14,7 +13,7 @@ use Rattle.hypergeometric.proofs.Laws.{hypergeometric-support}
 use Rattle.draws.specs.declared.Request.{Request}
 use Rattle.draws.specs.declared.Request.the-variants.{Hypergeometric}
 use Rattle.draws.specs.Request.{parameterRefusals, readingOf, drawOf}
-use Rattle.draws.specs.Demand2.{Answers, Demanded, Demand2}
+use Rattle.draws.specs.Demand2.{Demand2}
 use Rattle.draws.proofs.Laws.{draw-exactly}
 
 -- what holds exactly of the rule's outcome holds exactly of an equal answer's reading

@@ -11,10 +11,10 @@ use Rattle.geometric.specs.Geometric.{isProbability, isLarge, qOf, isNever, isT
 use Rattle.hypergeometric.specs.Reduction.{byMarked, bySample, reduction}
 use Rattle.hypergeometric.specs.First.{timesIn, overIn, atFactor, factors, fractionOfFactorials, firstProbability}
 use Rattle.hypergeometric.specs.Inversion.{nextP, walk, inverted}
-use Rattle.hypergeometric.specs.Hypergeometric.{setUp, isTaken, isSpent, trayRefusals, counted}
+use Rattle.hypergeometric.specs.Hypergeometric.{setUp, isTaken, zeroOrNotFinite, trayRefusals, counted}
 use Rattle.draws.specs.Request.{parameterRefusals, readingOf, drawOf}
 use Rattle.draws.specs.Table.{Table}
 
 pub rows : Table
-unfolding drawOf parameterRefusals readingOf round lt le eq sub mul div ofInt ofBits toBits leadingZeros tooLong fractionOf read inRange halved powerOf squaring squares isProbability isLarge qOf isNever isTooRare geometricReading byMarked bySample reduction timesIn overIn atFactor factors fractionOfFactorials firstProbability nextP walk inverted setUp isTaken isSpent trayRefusals counted
+unfolding drawOf parameterRefusals readingOf round lt le eq sub mul div ofInt ofBits toBits leadingZeros tooLong fractionOf read inRange halved powerOf squaring squares isProbability isLarge qOf isNever isTooRare geometricReading byMarked bySample reduction timesIn overIn atFactor factors fractionOfFactorials firstProbability nextP walk inverted setUp isTaken zeroOrNotFinite trayRefusals counted
 rows = refl

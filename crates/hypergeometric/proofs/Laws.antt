@@ -1,27 +1,25 @@
 -- Laws of the hypergeometric draw: what 01 says of modules 4 and 5 beside the rules themselves. Assumes nothing.
-use mathlib.Core.Path.{_≡_, refl, sym, ap, _∙_, subst}
+use mathlib.Core.Path.{_≡_, refl, sym, ap, subst}
 use mathlib.Core.List.{List}
 use mathlib.Core.Logic.{_↔_}
-use Prim.Native.Nat.{ℕ, suc, _≤_, _<_, min}
-use native.Mathlib.Nat.{le-trans}
+use Prim.Native.Nat.{ℕ, suc, _≤_, _<_}
 use native.Mathlib.Omega.{arith}
 use lib.ListN.{length, take, getD}
 use Rattle.words.specs.Words.{mostWords, fractionOf}
 use Rattle.words.specs.Outcome.{drawn, refused}
 use Rattle.words.specs.Rule.{reading}
-use Rattle.words.specs.Refusals.{First}
+use Rattle.words.specs.Refusals.{First, NoneHolds}
 use Rattle.words.specs.Draw.{refusals}
 use Rattle.words.proofs.Reading.{reading-short}
 use Rattle.words.proofs.Keeping.{reading-keeps}
 use Rattle.words.proofs.Locality.{reading-local}
 use Rattle.words.proofs.Drawing.{accepted-passed, accepted-reading, draw-exactly, draw-local}
 use Rattle.hypergeometric.specs.Reduction.{populationCap, reduction, InSupport}
-use Rattle.hypergeometric.specs.Inversion.{inverted}
 use Rattle.hypergeometric.specs.Hypergeometric.{setUp, isTaken, trayRefusals, counted, inversionRule, hypergeometric}
 use Rattle.hypergeometric.specs.RustTest.{rustTakes}
 use Rattle.hypergeometric.proofs.Reducing.{n1+n2, k≤n2, carries}
-use Rattle.hypergeometric.proofs.Walks.{inverted≤}
-use Rattle.hypergeometric.proofs.Settling.{accepted-K, accepted-n, accepted-N}
+use Rattle.hypergeometric.proofs.Walks.{StepExact, step-exact, inverted≤}
+use Rattle.hypergeometric.proofs.Settling.{accepted-K, accepted-n, accepted-N, set-up-small}
 use Rattle.hypergeometric.proofs.ModeTest.{mode-agrees}
 
 -- below the cap, the inversion is taken exactly where the Rust takes it
@@ -32,6 +30,11 @@ taken-agrees N K n hK hn h =
     let r = reduction N K n in
     let s = n1+n2 N K n hK hn in
     sym (mode-agrees N (r .n1) (r .n2) (r .k) h (omega arith) (k≤n2 N K n hK hn) (omega arith))
+
+-- no step of an accepted tray's inversion casts a whole number that a float would round
+pub inversion-exact : (N K n : ℕ) → NoneHolds (trayRefusals N K n) → (x : ℕ) → x < setUp N K n .k
+    → StepExact (setUp N K n .n1) (setUp N K n .n2) (setUp N K n .k) x
+inversion-exact N K n none x h = let s = setUp N K n in step-exact (s .n1) (s .n2) (s .k) x (set-up-small N K n none) h
 
 module _ (N K n : ℕ) (ws : List ℕ) where
   -- each refusal is given exactly on its condition, none earlier holding

@@ -3,4 +3,5 @@ pub mod Factors
 pub mod Walks
 pub mod Settling
 pub mod ModeTest
+pub mod Signs
 pub mod Laws

@@ -77,6 +77,10 @@ refused-draw N K n x ws within e =
     parameters-next ws (trayRefusals N K n) (reading (inversionRule (setUp N K n)) ws) within x first
 
 -- ---- a record that the set-up gave
+-- by this a caller that keeps a record meets what `sample_from` asks
+pub ready-from : (N K n : ℕ) (a : SetUp) (h : Hypergeometric) → setUpPaper a ≡ settled N K n → a ≡ Ready h → FromSetUp h
+ready-from N K n a h e r = record { N = N; K = K; n = n; gives = sym e ∙ ap setUpPaper r }
+
 module _ (h : Hypergeometric) (f : FromSetUp h) where
   from-given : NoneHolds (trayRefusals (f .N) (f .K) (f .n)) × (drawn (setUp (f .N) (f .K) (f .n)) 0 ≡ drawn h 0)
   unfolding settled

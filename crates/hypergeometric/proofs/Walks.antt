@@ -12,6 +12,12 @@ use Rattle.hypergeometric.specs.First.{asFloat}
 use Rattle.hypergeometric.specs.Inversion.{Small, nextP, walk, inverted}
 use Rattle.hypergeometric.proofs.Factors.{whole-exact}
 
+-- the two whole numbers of a step, as floats, are themselves to the last bit
+abbrev pub StepExact : ℕ → ℕ → ℕ → ℕ → Type 0
+StepExact n1 n2 k x =
+    HasValue (asFloat ((n1 - x) * (k - x))) false ((n1 - x) * (k - x)) 1
+    × HasValue (asFloat ((x + 1) * (n2 - k + 1 + x))) false ((x + 1) * (n2 - k + 1 + x)) 1
+
 module _ (n1 n2 k x : ℕ) (s : Small n1 n2 k) (h : x < k) where
   pub up≤ : (n1 - x) * (k - x) ≤ 2 ^ 40
   up≤ = mul-le-mul {n₂ = 2 ^ 20} {m₂ = 2 ^ 20} (omega arith) (omega arith)
@@ -19,9 +25,7 @@ module _ (n1 n2 k x : ℕ) (s : Small n1 n2 k) (h : x < k) where
   pub down≤ : (x + 1) * (n2 - k + 1 + x) ≤ 2 ^ 40
   down≤ = mul-le-mul {n₂ = 2 ^ 20} {m₂ = 2 ^ 20} (omega arith) (omega arith)
 
-  -- so no step of the inversion casts a whole number that a float would round
-  pub step-exact : HasValue (asFloat ((n1 - x) * (k - x))) false ((n1 - x) * (k - x)) 1
-      × HasValue (asFloat ((x + 1) * (n2 - k + 1 + x))) false ((x + 1) * (n2 - k + 1 + x)) 1
+  pub step-exact : StepExact n1 n2 k x
   step-exact = (whole-exact ((n1 - x) * (k - x)) (omega (arith, up≤)), whole-exact ((x + 1) * (n2 - k + 1 + x)) (omega (arith, down≤)))
 
 module _ (n1 n2 k : ℕ) where

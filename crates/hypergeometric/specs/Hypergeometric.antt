@@ -33,8 +33,8 @@ unfoldable pub isTaken : ℕ → Hypergeometric → Bool
 isTaken N h = ltb ((h .k + 1) * (h .n1 + 1)) (10 * (N + 2))
 
 -- the first probability is zero or not finite
-unfoldable pub isSpent : Float → Bool
-isSpent p = eq p (ratio 0 1) || not (finite p)
+unfoldable pub zeroOrNotFinite : Float → Bool
+zeroOrNotFinite p = eq p (ratio 0 1) || not (finite p)
 
 -- the parameters' refusals in their order: ProbabilityTooLarge, SampleSizeTooLarge, CapExceeded, ModeTooHigh, PopulationTooLarge
 unfoldable pub trayRefusals : ℕ → ℕ → ℕ → List Condition
@@ -43,7 +43,7 @@ trayRefusals N K n =
     ∷ 4 on ltb N n
     ∷ 5 on ltb populationCap N
     ∷ 6 on not (isTaken N (setUp N K n))
-    ∷ 2 on isSpent (setUp N K n .first)
+    ∷ 2 on zeroOrNotFinite (setUp N K n .first)
     ∷ []
 
 -- what the set-up comes to: a refusal, or the record, for no word

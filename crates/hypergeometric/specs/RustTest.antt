@@ -1,8 +1,9 @@
--- What the Rust asks where 01, module 5, asks (k+1)(n1+1) < 10(N+2): a test of floats, each operation rounded once. No contract speaks of
--- it; the law `mode-agrees` compares the two. Assumes nothing.
+-- What the Rust asks where 01, module 5, asks (k+1)(n1+1) < 10(N+2), and whether the first probability is zero or not finite: tests of
+-- floats, each operation rounded once. No contract speaks of them; the laws `taken-agrees` and `first-agrees` compare. Assumes nothing.
 use Prim.Native.Nat.{ℕ, _+_, _-_, _*_, _/_}
-use mathlib.Core.Bool.{Bool, true, false, cond}
-use lib.Ieee.{Float, nan, inf, fin, binary64, up, down, round, sub, mul, div, lt}
+use mathlib.Core.Bool.{Bool, true, false, not, _||_, cond}
+use lib.Ieee.{Float, nan, inf, fin, binary64, up, down, round, sub, mul, div, lt, le}
+use lib.Ieee.Scale.{finite}
 use Rattle.words.specs.Words.{ratio}
 use Rattle.hypergeometric.specs.First.{asFloat}
 
@@ -24,3 +25,7 @@ rustMode N n1 k = floor (div binary64 (mul binary64 (asFloat (k + 1)) (asFloat (
 -- M - max(0, k - n2) < 10
 unfoldable pub rustTakes : ℕ → ℕ → ℕ → ℕ → Bool
 rustTakes N n1 n2 k = lt (sub binary64 (rustMode N n1 k) (larger (ratio 0 1) (sub binary64 (asFloat k) (asFloat n2)))) (ratio 10 1)
+
+-- initial_p <= 0.0 || !initial_p.is_finite()
+unfoldable pub rustRefuses : Float → Bool
+rustRefuses p = le p (ratio 0 1) || not (finite p)

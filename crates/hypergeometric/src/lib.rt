@@ -15,7 +15,7 @@ ghost use Rattle.words.specs.Paper.{paper};
 ghost use Rattle.hypergeometric.specs.Reduction.{populationCap, landing, flip, Lands, byMarked, reduction};
 ghost use Rattle.hypergeometric.specs.First.{timesIn, overIn, atFactor, fractionOfFactorials, firstProbability};
 ghost use Rattle.hypergeometric.specs.Inversion.{Small, nextP, inverted};
-ghost use Rattle.hypergeometric.specs.Hypergeometric.{withFirst, isSpent, settled, setUpPaper, FromSetUp, inversionRule, hypergeometric};
+ghost use Rattle.hypergeometric.specs.Hypergeometric.{withFirst, zeroOrNotFinite, settled, setUpPaper, FromSetUp, inversionRule, hypergeometric};
 
 // The largest population that is drawn from.
 const CAP: u64 = 1_048_576;
@@ -116,7 +116,7 @@ pub fn set_up(total_population_size: u64, population_with_feature: u64, sample_s
 
 // The record with a first probability that is neither zero nor past the floats' range.
 fn with_first(r: Reduced, first: f64) -> SetUp
-    ensures { λ s. ⌜ setUpPaper s ≡ given (2 on isSpent first ∷ []) (drawn (withFirst r first) 0) ⌝ }
+    ensures { λ s. ⌜ setUpPaper s ≡ given (2 on zeroOrNotFinite first ∷ []) (drawn (withFirst r first) 0) ⌝ }
 {
     if first == 0.0 || !is_finite(first) {
         return SetUp::Refused(Refusal::PopulationTooLarge);
@@ -164,7 +164,7 @@ fn reduce(total_population_size: u64, population_with_feature: u64, sample_size:
     }
 }
 
-// With n1 = N - K it is the unmarked that are counted, and the marked are the rest of the sample.
+// With n1 = N - K it is the unmarked that are counted, and the marked are the rest of the sample. k is the sample so far.
 fn by_marked(total_population_size: u64, population_with_feature: u64, sample_size: u64) -> Reduced
     requires { ⌜ «population_with_feature» ≤ «total_population_size» ⌝ }
     ensures { λ r. ⌜ r ≡ byMarked «total_population_size» «population_with_feature» «sample_size» ⌝ }
@@ -200,6 +200,7 @@ fn land(sign: Sign, offset: u64, x: u64) -> u64
     }
 }
 
+// The other sign.
 fn flipped(sign: Sign) -> Sign
     ensures { λ r. ⌜ r ≡ flip sign ⌝ }
 {
@@ -211,12 +212,11 @@ fn flipped(sign: Sign) -> Sign
 
 // ---- the first probability
 
-// By which of the two products it is, as k is below n2 or not.
-fn first_probability(total_population_size: u64, n1: u64, n2: u64, k: u64) -> f64
-    requires { ⌜ («total_population_size» ≤ populationCap) × (n1 ≤ «total_population_size») × (n2 ≤ «total_population_size») × (k ≤ «total_population_size») ⌝ }
-    ensures { λ r. ⌜ r ≡ firstProbability «total_population_size» n1 n2 k ⌝ }
+// By which of the two products it is, as k is below n2 or not. n is the population.
+fn first_probability(n: u64, n1: u64, n2: u64, k: u64) -> f64
+    requires { ⌜ (n ≤ populationCap) × (n1 ≤ n) × (n2 ≤ n) × (k ≤ n) ⌝ }
+    ensures { λ r. ⌜ r ≡ firstProbability n n1 n2 k ⌝ }
 {
-    let n = total_population_size;
     if k < n2 {
         fraction_of_products_of_factorials(n2, n - k, n, n2 - k)
     } else {
@@ -263,6 +263,7 @@ fn at_factor(
     over(max_bottom, i, third)
 }
 
+// i is a factor of top! where it is at most top.
 fn times(top: u64, i: u64, result: f64) -> f64
     requires { ⌜ i ≤ 2 ^ 53 ⌝ }
     ensures { λ r. ⌜ r ≡ timesIn top i result ⌝ }
@@ -274,6 +275,7 @@ fn times(top: u64, i: u64, result: f64) -> f64
     }
 }
 
+// The same below the line.
 fn over(bottom: u64, i: u64, result: f64) -> f64
     requires { ⌜ i ≤ 2 ^ 53 ⌝ }
     ensures { λ r. ⌜ r ≡ overIn bottom i result ⌝ }

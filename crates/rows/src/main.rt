@@ -1,6 +1,7 @@
 // Fractions of words, each with its bits, and draws of every kind on both sides of each edge, a line each: what is drawn, then the
 // count and the words used, or the refusal.
 use draws::Request;
+use hypergeometric::SetUp;
 use libc::STDOUT_FILENO;
 use words::Answer;
 
@@ -16,6 +17,7 @@ fn main() {
     refused_tray_rows();
     large_tray_rows();
     past_support_rows();
+    kept_rows();
 }
 
 // Writes a line: the label, and the answer.
@@ -285,5 +287,23 @@ fn past_support_rows() {
         20,
         22,
         0xffff_ffff_ffff_c000,
+    );
+}
+
+// One tray's record, kept for two words.
+fn kept_rows() {
+    let low = [0x1000_0000_0000_0000u64];
+    let high = [0xf000_0000_0000_0000u64];
+    let s = hypergeometric::set_up(60, 24, 7);
+    let SetUp::Ready(kept) = s else {
+        return;
+    };
+    line(
+        b"hypergeometric (60,24,7), kept, a low word",
+        hypergeometric::sample_from(&low, kept),
+    );
+    line(
+        b"hypergeometric (60,24,7), kept, a high word",
+        hypergeometric::sample_from(&high, kept),
     );
 }

@@ -1,6 +1,5 @@
 -- `hypergeometric::at_factor` meets its contract: the four steps stand in their order. Assumes nothing.
 use borrow.Author.Needs.{needs}
-use mathlib.Core.Path.{_∙_}
 use Rattle.hypergeometric.specs.First.{atFactor}
 use Rattle.hypergeometric.proofs.at_factor.Statement.{statement}
 use Rattle.hypergeometric.proofs.at_factor.Tie as tie

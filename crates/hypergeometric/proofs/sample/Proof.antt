@@ -1,7 +1,8 @@
 -- `hypergeometric::sample` meets its contract: the set-up decides the parameters' refusals, and its record the count. Assumes nothing.
 use borrow.Author.Needs.{needs}
-use mathlib.Core.Path.{sym, ap, _∙_}
-use Rattle.hypergeometric.specs.Hypergeometric.{setUpPaper, FromSetUp, hypergeometric}
+use mathlib.Core.Path.{_≡_, sym, ap, _∙_}
+use Rattle.words.specs.Outcome.{drawn}
+use Rattle.hypergeometric.specs.Hypergeometric.{settled, setUpPaper, FromSetUp, hypergeometric}
 use Rattle.hypergeometric.proofs.Settling.{refused-draw, kept-draw}
 use Rattle.hypergeometric.proofs.sample.Statement.{statement}
 use Rattle.hypergeometric.proofs.sample.Tie as tie
@@ -20,15 +21,14 @@ enum-known-s : tie.Need-enum-known-s
 enum-known-s c = search needs
 
 -- the record that was matched is the set-up's
+gives : (c : tie.After-s)
+    → (let a = c .before .before .before .before .before .before .args in settled (a .total-population-size) (a .population-with-feature) (a .sample-size) ≡ drawn (c .s .given .0 .0) 0)
+gives c = sym (c .before .before .set-up .ensures) ∙ ap setUpPaper (c .s .given .1)
+
 from : (c : tie.After-s) → FromSetUp (c .s .given .0 .0)
 from c =
     let a = c .before .before .before .before .before .before .args in
-    record {
-      N = a .total-population-size;
-      K = a .population-with-feature;
-      n = a .sample-size;
-      gives = sym (c .before .before .set-up .ensures) ∙ ap setUpPaper (c .s .given .1);
-    }
+    record { N = a .total-population-size; K = a .population-with-feature; n = a .sample-size; gives = gives c }
 
 sample-from-requires : tie.Need-sample-from-requires
 sample-from-requires c κs = from (c .before)

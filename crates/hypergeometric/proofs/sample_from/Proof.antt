@@ -1,6 +1,6 @@
 -- `hypergeometric::sample_from` meets its contract. Assumes nothing.
 use borrow.Author.Needs.{needs}
-use mathlib.Core.Path.{_≡_, sym, _∙_, subst}
+use mathlib.Core.Path.{sym, _∙_, subst}
 use Prim.Native.Nat.{ℕ, _≤_, min}
 use Rattle.words.specs.Rule.{reading}
 use Rattle.words.proofs.Reading.{read-done, read-at, read-end}

@@ -4,7 +4,7 @@ use mathlib.Core.Path.{_≡_, sym, ap, _∙_}
 use mathlib.Core.Bool.{true, not}
 use mathlib.Core.Logic.{⊎-elim}
 use lib.Ieee.{ofBits, round}
-use Rattle.hypergeometric.specs.Hypergeometric.{isSpent}
+use Rattle.hypergeometric.specs.Hypergeometric.{zeroOrNotFinite}
 use Rattle.hypergeometric.proofs.with_first.Statement.{statement}
 use Rattle.hypergeometric.proofs.with_first.Tie as tie
 
@@ -12,15 +12,15 @@ is-finite-requires : tie.Need-is-finite-requires
 is-finite-requires c κs = search needs
 
 -- where either half of the test is met
-spent : (c : tie.Joined1) → isSpent (c .before .args .first) ≡ true
-unfolding isSpent ofBits round
-spent c = ⊎-elim (λ t. simp (t .taken)) (λ t. simp (t .0 .left, ap not (sym (t .1 .ensures)) ∙ t .2 .taken)) (c .if1 .came)
+refused-here : (c : tie.Joined1) → zeroOrNotFinite (c .before .args .first) ≡ true
+unfolding zeroOrNotFinite ofBits round
+refused-here c = ⊎-elim (λ t. simp (t .taken)) (λ t. simp (t .0 .left, ap not (sym (t .1 .ensures)) ∙ t .2 .taken)) (c .if1 .came)
 
 returns : tie.Need-returns
-returns c = simp (spent c)
+returns c = simp (refused-here c)
 
 returns-2 : tie.Need-returns-2
-unfolding isSpent ofBits round
+unfolding zeroOrNotFinite ofBits round
 returns-2 c = simp (c .before .before .if1 .left, ap not (sym (c .before .is-finite .ensures)) ∙ c .if2 .left)
 
 pub with-first-spec : {M : Type 1} → statement M
