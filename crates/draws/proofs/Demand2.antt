@@ -14,7 +14,7 @@ use Rattle.draws.specs.declared.Request.{Request}
 use Rattle.draws.specs.declared.Request.the-variants.{Hypergeometric}
 use Rattle.draws.specs.Request.{parameterRefusals, readingOf, drawOf}
 use Rattle.draws.specs.Demand2.{Demand2}
-use Rattle.draws.proofs.Laws.{draw-exactly}
+use Rattle.draws.proofs.Laws.{request-exactly}
 
 -- what holds exactly of the rule's outcome holds exactly of an equal answer's reading
 along : {B : Type 0} (o p : Outcome ℕ) (x : Outcome ℕ) → p ≡ o → (o ≡ x) ↔ B → (p ≡ x) ↔ B
@@ -29,7 +29,7 @@ unfolding drawOf
 demand-2 r ws a e =
     record {
       draws = λ c u. along (drawOf r ws) (paper a) (drawn c u) e (accepted-exactly ws (parameterRefusals r) (readingOf r ws) c u);
-      refuses = λ n. along (drawOf r ws) (paper a) (refused n) e (draw-exactly r ws n);
+      refuses = λ n. along (drawOf r ws) (paper a) (refused n) e (request-exactly r ws n);
       support = λ N K n c u k d. support-of r ws N K n c u k (sym e ∙ d);
       one = λ b f. one-answer b a (f ∙ sym e);
     }

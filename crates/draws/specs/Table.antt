@@ -39,12 +39,12 @@ table =
     ∷ []
 
 -- what the rules give, and what the row says
-abbrev pub given : Row → Outcome ℕ
-given r = drawOf (r .request) (r .words)
+abbrev pub outcome : Row → Outcome ℕ
+outcome r = drawOf (r .request) (r .words)
 
 abbrev pub listed : Row → Outcome ℕ
 listed r = drawn (r .count) (r .used)
 
 -- the statement: the rules give every row
 abbrev pub Table : Type 0
-Table = map given table ≡ map listed table
+Table = map outcome table ≡ map listed table

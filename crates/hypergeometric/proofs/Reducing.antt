@@ -21,7 +21,7 @@ from : (N K n u o m c : ℕ) → u + K ≡ N → o + u ≡ n → n + m ≡ N →
 from N K n u o m c a b d l h = (omega arith, omega arith)
 
 module _ (N K n : ℕ) where
-  -- what holds of the reduction holds in each of its four cases, and the other way round
+  -- what the two tests choose between
   abbrev marked : Bool → Reduced
   marked true = record { n1 = N - K; n2 = K; k = n; offset = n; sign = Minus }
   marked false = record { n1 = K; n2 = N - K; k = n; offset = 0; sign = Plus }
@@ -29,6 +29,7 @@ module _ (N K n : ℕ) where
   abbrev left : Reduced → Reduced
   left r = record { n1 = r .n1; n2 = r .n2; k = N - n; offset = landing (r .sign) (r .offset) (r .n1); sign = flip (r .sign) }
 
+  -- what holds in each of the four cases, given what its tests say, holds of the reduction
   pub by-case : (P : Reduced → Type 0)
       → (N - K < K → n ≤ N / 2 → P (marked true)) → (N - K < K → N / 2 < n → P (left (marked true)))
       → (K ≤ N - K → n ≤ N / 2 → P (marked false)) → (K ≤ N - K → N / 2 < n → P (left (marked false))) → P (reduction N K n)
@@ -55,7 +56,7 @@ module _ (N K n : ℕ) where
   unfolding byMarked
   marked-lands h m = go (ltb (N - K) K) refl
     where
-      go : (s : Bool) → ltb (N - K) K ≡ s → Lands (cond s (marked true) (marked false) .sign) (cond s (marked true) (marked false) .offset) (cond s (marked true) (marked false) .n1)
+      go : (s : Bool) → ltb (N - K) K ≡ s → (let r = cond s (marked true) (marked false) in Lands (r .sign) (r .offset) (r .n1))
       go true e = let l = ltb-true (N - K) K e in omega arith
       go false e = omega arith
 

@@ -40,7 +40,11 @@ loop-holds : tie.Need-loop-holds Inv-loop μ-loop
 unfolding fractionOfFactorials ofBits round
 loop-holds c =
     let s = c .before .before .before .before in
-    (omega arith, omega arith, simp (c .smaller3 .ensures, c .before .larger3 .ensures, c .before .before .larger2 .ensures, c .before .before .before .larger .ensures, s .smaller2 .ensures, s .before .smaller .ensures))
+    let l = c .before .before in (
+      omega arith,
+      omega arith,
+      simp (c .smaller3 .ensures, c .before .larger3 .ensures, l .larger2 .ensures, l .before .larger .ensures, s .smaller2 .ensures, s .before .smaller .ensures),
+    )
 
 add-i : tie.Need-add-i Inv-loop μ-loop
 add-i c = search needs

@@ -46,7 +46,8 @@ loop-again c =
     let s = c .before .before .before .before .before .args .kept in
     let b = c .before .before .before .before .smaller .result in
     let h : l .x < b = ltb-true _ _ (c .before .if1 .taken) in
-    (omega arith, l .inv .1, l .inv .2 ∙ simp (c .before .before .loop-test .taken) (walk-more (s .n1) (s .n2) (s .k) b (l .x) (l .u) (l .p) h ∙ simp (← c .next-p .ensures)))
+    let more = walk-more (s .n1) (s .n2) (s .k) b (l .x) (l .u) (l .p) h in
+    (omega arith, l .inv .1, l .inv .2 ∙ simp (c .before .before .loop-test .taken) (more ∙ simp (← c .next-p .ensures)))
 
 returns : tie.Need-returns Inv-loop μ-loop
 returns c =

@@ -21,8 +21,8 @@ enum-known-s : tie.Need-enum-known-s
 enum-known-s c = search needs
 
 -- the record that was matched is the set-up's
-gives : (c : tie.After-s)
-    → (let a = c .before .before .before .before .before .before .args in settled (a .total-population-size) (a .population-with-feature) (a .sample-size) ≡ drawn (c .s .given .0 .0) 0)
+gives : (c : tie.After-s) → (let a = c .before .before .before .before .before .before .args in
+    settled (a .total-population-size) (a .population-with-feature) (a .sample-size) ≡ drawn (c .s .given .0 .0) 0)
 gives c = sym (c .before .before .set-up .ensures) ∙ ap setUpPaper (c .s .given .1)
 
 from : (c : tie.After-s) → FromSetUp (c .s .given .0 .0)

@@ -57,7 +57,8 @@ returns-3 c =
     let w = t .w .given .0 .0 in
     let e = sym (t .before .before .word-at .ensures) ∙ t .w .given .1 in
     simp (sym (t .before .before .before .before .too-long .ensures) ∙ t .before .before .before .if1 .left)
-    (sym (ends-same (reading r ws) ∙ read-at r ws 0 w tt 0 e ∙ read-done r _ _ _ ∙ simp (← c .before .before .fraction .ensures, ← c .before .invert .ensures, ← c .land .ensures)))
+    (sym (ends-same (reading r ws) ∙ read-at r ws 0 w tt 0 e ∙ read-done r _ _ _
+    ∙ simp (← c .before .before .fraction .ensures, ← c .before .invert .ensures, ← c .land .ensures)))
 
 pub sample-from-spec : {M : Type 1} → statement M
 sample-from-spec =

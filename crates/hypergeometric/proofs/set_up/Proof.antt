@@ -25,11 +25,13 @@ reduce-requires : tie.Need-reduce-requires
 reduce-requires c κs = search needs
 
 -- the sizes of what the reduction gave
-given-sizes : (c : tie.After-reduce) → Sizes (c .before .before .before .before .args .total-population-size) (c .reduce .result .n1) (c .reduce .result .n2) (c .reduce .result .k)
+given-sizes : (c : tie.After-reduce) → (let r = c .reduce .result in
+    Sizes (c .before .before .before .before .args .total-population-size) (r .n1) (r .n2) (r .k))
 given-sizes c =
     let a = c .before .before .before .before .args in
     subst (λ (r : Reduced). Sizes (a .total-population-size) (r .n1) (r .n2) (r .k)) (sym (c .reduce .ensures))
-    (sizes (a .total-population-size) (a .population-with-feature) (a .sample-size) (c .before .before .before .if1 .left) (c .before .before .if2 .left) (c .before .if3 .left))
+    (sizes (a .total-population-size) (a .population-with-feature) (a .sample-size)
+    (c .before .before .before .if1 .left) (c .before .before .if2 .left) (c .before .if3 .left))
 
 add-if4 : tie.Need-add-if4
 add-if4 c = let z = given-sizes (c .before) in omega (arith, z .k≤, c .before .before .if3 .left)
@@ -59,14 +61,18 @@ unfolding settled trayRefusals isTaken setUp
 returns-4 c =
     let t = c .before .before in
     let b = t .before .before .before in
+    let o = b .before in
     c .with-first .ensures
-    ∙ simp (le-ltb _ _ (b .before .before .before .if1 .left), le-ltb _ _ (b .before .before .if2 .left), le-ltb _ _ (b .before .if3 .left), ← b .reduce .ensures, ← c .before .first-probability .ensures, lt-ltb _ _ (t .if4 .taken))
+    ∙ simp (le-ltb _ _ (o .before .before .if1 .left), le-ltb _ _ (o .before .if2 .left), le-ltb _ _ (o .if3 .left))
+    (simp (← b .reduce .ensures, ← c .before .first-probability .ensures, lt-ltb _ _ (t .if4 .taken)))
 
 returns-5 : tie.Need-returns-5
 unfolding settled trayRefusals isTaken setUp
 returns-5 c =
     let b = c .before .before .before in
-    simp (le-ltb _ _ (b .before .before .before .if1 .left), le-ltb _ _ (b .before .before .if2 .left), le-ltb _ _ (b .before .if3 .left), ← b .reduce .ensures, le-ltb _ _ (c .if4 .left))
+    let o = b .before in
+    simp (le-ltb _ _ (o .before .before .if1 .left), le-ltb _ _ (o .before .if2 .left), le-ltb _ _ (o .if3 .left))
+    (simp (← b .reduce .ensures, le-ltb _ _ (c .if4 .left)))
 
 pub set-up-spec : {M : Type 1} → statement M
 set-up-spec =
