@@ -36,6 +36,6 @@ fractionOfFactorials a b c d =
     let maxAll = max (max a b) (max c d) in
     factors (min a b) (min c d) (max a b) (max c d) (maxAll - minAll) minAll (ratio 1 1)
 
--- ((n2, N-k), (N, n2-k)) if k < n2, else ((n1, k), (N, k-n2))
+-- the first probability's four numbers, two above the line and two below, by whether k is below n2
 unfoldable pub firstProbability : ℕ → ℕ → ℕ → ℕ → Float
 firstProbability N n1 n2 k = cond (ltb k n2) (fractionOfFactorials n2 (N - k) N (n2 - k)) (fractionOfFactorials n1 k N (k - n2))

@@ -28,11 +28,11 @@ withFirst r p = record { n1 = r .n1; n2 = r .n2; k = r .k; offset = r .offset; s
 unfoldable pub setUp : ℕ → ℕ → ℕ → Hypergeometric
 setUp N K n = let r = reduction N K n in withFirst r (firstProbability N (r .n1) (r .n2) (r .k))
 
--- the inversion is taken exactly when (k+1)(n1+1) < 10(N+2)
+-- the mode is low enough for the inversion: below 10
 unfoldable pub isTaken : ℕ → Hypergeometric → Bool
 isTaken N h = ltb ((h .k + 1) * (h .n1 + 1)) (10 * (N + 2))
 
--- the first probability is zero or not finite
+-- a first probability that nothing can be drawn from
 unfoldable pub zeroOrNotFinite : Float → Bool
 zeroOrNotFinite p = eq p (ratio 0 1) || not (finite p)
 

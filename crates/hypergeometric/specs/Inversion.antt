@@ -5,11 +5,12 @@ use lib.Ieee.{Float, binary64, sub, mul, div, lt}
 use Rattle.hypergeometric.specs.Reduction.{populationCap}
 use Rattle.hypergeometric.specs.First.{asFloat}
 
--- p is multiplied by (n1-x)(k-x), then divided by (x+1)(n2-k+1+x)
+-- the probability of x + 1 from that of x: a product, then a quotient, each by one whole number
 unfoldable pub nextP : ℕ → ℕ → ℕ → ℕ → Float → Float
 nextP n1 n2 k x p = div binary64 (mul binary64 p (asFloat ((n1 - x) * (k - x)))) (asFloat ((x + 1) * (n2 - k + 1 + x)))
 
--- While u > p, as the Bool says, and x is below the bound, which is r away: u becomes u - p, p the next p, and x grows by 1.
+-- The bound is r steps ahead of x, and the Bool says whether u is above p. Where both leave a step to take, u loses p, p becomes the next
+-- one, and x moves on by 1.
 unfoldable pub walk : ℕ → ℕ → ℕ → ℕ → Bool → ℕ → Float → Float → ℕ
 walk n1 n2 k zero above x u p = x
 walk n1 n2 k (suc r) false x u p = x

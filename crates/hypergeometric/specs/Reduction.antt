@@ -6,7 +6,7 @@ use Rattle.hypergeometric.specs.declared.Sign.{Sign}
 use Rattle.hypergeometric.specs.declared.Sign.the-variants.{Plus, Minus}
 use Rattle.hypergeometric.specs.declared.Reduced.{Reduced}
 
--- the largest N
+-- the most things that a population may have
 abbrev pub populationCap : ℕ
 populationCap = 1048576
 
@@ -24,14 +24,16 @@ abbrev pub flip : Sign → Sign
 flip Plus = Minus
 flip Minus = Plus
 
--- if K > N-K, then n1 = N-K, n2 = K, offset n, sign -1; else n1 = K, n2 = N-K, offset 0, sign +1; k is n so far
+-- Of marked and unmarked, n1 is the fewer and n2 the others. Where the fewer are the unmarked, the marked of a sample are n less those:
+-- offset n, sign -1. Else they are counted as they are. The sample, k, is n for now.
 unfoldable pub byMarked : ℕ → ℕ → ℕ → Reduced
 byMarked N K n =
     cond (ltb (N - K) K)
     (record { n1 = N - K; n2 = K; k = n; offset = n; sign = Minus })
     (record { n1 = K; n2 = N - K; k = n; offset = 0; sign = Plus })
 
--- if n ≤ floor(N/2), k = n; else the offset grows by n1·sign, the sign flips, and k = N-n
+-- A sample of more than half, rounded down, is exchanged with what it leaves, N-n things: they have n1 less what the sample has of it, so
+-- the offset moves by n1 in the sign's direction, and the sign is the other.
 unfoldable pub bySample : ℕ → ℕ → Reduced → Reduced
 bySample N n r =
     cond (leb n (N / 2)) r

@@ -22,10 +22,10 @@ larger x y = cond (lt x y) y x
 unfoldable pub rustMode : ℕ → ℕ → ℕ → Float
 rustMode N n1 k = floor (div binary64 (mul binary64 (asFloat (k + 1)) (asFloat (n1 + 1))) (asFloat (N + 2)))
 
--- M - max(0, k - n2) < 10
+-- whether M, less what k has above n2, is below 10
 unfoldable pub rustTakes : ℕ → ℕ → ℕ → ℕ → Bool
 rustTakes N n1 n2 k = lt (sub binary64 (rustMode N n1 k) (larger (ratio 0 1) (sub binary64 (asFloat k) (asFloat n2)))) (ratio 10 1)
 
--- initial_p <= 0.0 || !initial_p.is_finite()
+-- of the first probability: at most 0, or not finite
 unfoldable pub rustRefuses : Float → Bool
 rustRefuses p = le p (ratio 0 1) || not (finite p)

@@ -15,7 +15,6 @@ fn main() {
     standard_rows();
     tray_rows();
     refused_tray_rows();
-    large_tray_rows();
     past_support_rows();
     kept_rows();
 }
@@ -23,6 +22,11 @@ fn main() {
 // Writes a line: the label, and the answer.
 fn line(label: &[u8], answer: Answer) {
     io::write_all(STDOUT_FILENO, label);
+    end_line(answer);
+}
+
+// Writes the rest of a line: the answer.
+fn end_line(answer: Answer) {
     match answer {
         Answer::Drawn { count, used } => {
             io::write_all(STDOUT_FILENO, b" count ");
@@ -188,109 +192,56 @@ fn standard_rows() {
 }
 
 // Writes a line: a hypergeometric draw over one word.
-fn tray(label: &[u8], total: u64, marked: u64, sample: u64, word: u64) {
+fn tray(total: u64, marked: u64, sample: u64, word: u64) {
+    io::write_all(STDOUT_FILENO, b"hypergeometric (");
+    io::print_decimal(STDOUT_FILENO, total);
+    io::write_all(STDOUT_FILENO, b",");
+    io::print_decimal(STDOUT_FILENO, marked);
+    io::write_all(STDOUT_FILENO, b",");
+    io::print_decimal(STDOUT_FILENO, sample);
+    io::write_all(STDOUT_FILENO, b") over 0x");
+    io::print_hex(STDOUT_FILENO, word, 16);
     let tape = [word];
     let request = Request::Hypergeometric {
         total,
         marked,
         sample,
     };
-    line(label, draws::draw(&tape, request));
+    end_line(draws::draw(&tape, request));
 }
 
-// The last two are a word whose count would be 5 if a product and a quotient were cancelled, and the last mode that is drawn.
+// At the fifth word the count would be 1 with `u >= p`, and at the seventh 5 if a product and a quotient were cancelled.
 fn tray_rows() {
-    tray(b"hypergeometric (0,0,0)", 0, 0, 0, 0xffff_ffff_ffff_ffff);
-    tray(
-        b"hypergeometric (60,24,7)",
-        60,
-        24,
-        7,
-        0x8000_0000_0000_0000,
-    );
-    tray(b"hypergeometric (50,35,10)", 50, 35, 10, 0);
-    tray(b"hypergeometric (2,1,1)", 2, 1, 1, 0x8000_0000_0000_0000);
-    tray(
-        b"hypergeometric (2,1,1), the next fraction",
-        2,
-        1,
-        1,
-        0x8000_0000_0000_0800,
-    );
-    tray(
-        b"hypergeometric (41,16,17)",
-        41,
-        16,
-        17,
-        2_085_749_751_862_417 * 2048,
-    );
-    tray(
-        b"hypergeometric (98,38,24)",
-        98,
-        38,
-        24,
-        0x8000_0000_0000_0000,
-    );
+    tray(0, 0, 0, 0xffff_ffff_ffff_ffff);
+    tray(60, 24, 7, 0x1000_0000_0000_0000);
+    tray(60, 24, 7, 0xf000_0000_0000_0000);
+    tray(50, 35, 10, 0);
+    tray(2, 1, 1, 0x8000_0000_0000_0000);
+    tray(2, 1, 1, 0x8000_0000_0000_0800);
+    tray(41, 16, 17, 2_085_749_751_862_417 * 2048);
+    tray(98, 38, 24, 0x8000_0000_0000_0000);
 }
 
-// Each refusal, and which of them wins; no word is read for any of them but the last.
+// Each refusal of the parameters, and which of two wins. A large tray's product runs past the floats' range before its last divisions.
 fn refused_tray_rows() {
-    tray(b"hypergeometric (98,39,24)", 98, 39, 24, 0);
-    tray(b"hypergeometric (5,6,6)", 5, 6, 6, 0);
-    tray(b"hypergeometric (5,5,6)", 5, 5, 6, 0);
-    tray(
-        b"hypergeometric (1048577,1048578,1)",
-        1_048_577,
-        1_048_578,
-        1,
-        0,
-    );
-    tray(b"hypergeometric (1048577,1,1)", 1_048_577, 1, 1, 0);
-    let none: [u64; 1] = [0];
-    let request = Request::Hypergeometric {
-        total: 60,
-        marked: 24,
-        sample: 7,
-    };
-    line(
-        b"hypergeometric (60,24,7), no word",
-        draws::draw(&none[..0], request),
-    );
-}
-
-// The first probability of a large tray: the product runs past the floats' range before its last divisions.
-fn large_tray_rows() {
-    tray(
-        b"hypergeometric (1048576,50,50)",
-        1_048_576,
-        50,
-        50,
-        0xffff_ffff_ffff_ffff,
-    );
-    tray(b"hypergeometric (1048576,51,51)", 1_048_576, 51, 51, 0);
-    tray(
-        b"hypergeometric (1048576,3000,3000)",
-        1_048_576,
-        3000,
-        3000,
-        0,
-    );
+    tray(98, 39, 24, 0);
+    tray(5, 6, 6, 0);
+    tray(5, 5, 6, 0);
+    tray(1_048_577, 1_048_578, 1, 0);
+    tray(1_048_577, 1, 1, 0);
+    tray(1_048_576, 50, 50, 0xffff_ffff_ffff_ffff);
+    tray(1_048_576, 51, 51, 0);
+    tray(1_048_576, 3000, 3000, 0);
 }
 
 // Words that lead the Rust past the support: to 4, to 2^64 - 1 and to 22.
 fn past_support_rows() {
-    tray(b"hypergeometric (9,3,4)", 9, 3, 4, 0xffff_ffff_ffff_ffff);
-    tray(b"hypergeometric (9,3,5)", 9, 3, 5, 0xffff_ffff_ffff_ffff);
-    tray(
-        b"hypergeometric (48,20,22)",
-        48,
-        20,
-        22,
-        0xffff_ffff_ffff_c000,
-    );
+    tray(9, 3, 4, 0xffff_ffff_ffff_ffff);
+    tray(9, 3, 5, 0xffff_ffff_ffff_ffff);
+    tray(48, 20, 22, 0xffff_ffff_ffff_c000);
 }
 
-// One tray's record, kept for two words.
+// One tray's record, kept for two words and for no word.
 fn kept_rows() {
     let low = [0x1000_0000_0000_0000u64];
     let high = [0xf000_0000_0000_0000u64];
@@ -299,11 +250,15 @@ fn kept_rows() {
         return;
     };
     line(
-        b"hypergeometric (60,24,7), kept, a low word",
+        b"kept (60,24,7), a low word",
         hypergeometric::sample_from(&low, kept),
     );
     line(
-        b"hypergeometric (60,24,7), kept, a high word",
+        b"kept (60,24,7), a high word",
         hypergeometric::sample_from(&high, kept),
+    );
+    line(
+        b"kept (60,24,7), no word",
+        hypergeometric::sample_from(&high[..0], kept),
     );
 }

@@ -45,6 +45,21 @@ sample-from-requires-2 c κs = from (c .before .before .before .before .before .
 line-requires-2 : tie.Need-line-requires-2
 line-requires-2 c κs = search needs
 
+slice-aggregate-line-3 : tie.Need-slice-aggregate-line-3
+slice-aggregate-line-3 c = search needs
+
+array-share-prefix-high : tie.Need-array-share-prefix-high
+array-share-prefix-high c = search needs
+
+slice-aggregate-sample-from-3 : tie.Need-slice-aggregate-sample-from-3
+slice-aggregate-sample-from-3 c = search needs
+
+sample-from-requires-3 : tie.Need-sample-from-requires-3
+sample-from-requires-3 c κs = from (c .before .before .before .before .before .before .before .before .before .before .before)
+
+line-requires-3 : tie.Need-line-requires-3
+line-requires-3 c κs = search needs
+
 returns-2 : tie.Need-returns-2
 returns-2 c = search needs
 
@@ -64,4 +79,9 @@ kept-rows-spec =
     slice-aggregate-sample-from-2
     sample-from-requires-2
     line-requires-2
+    slice-aggregate-line-3
+    array-share-prefix-high
+    slice-aggregate-sample-from-3
+    sample-from-requires-3
+    line-requires-3
     returns-2)
