@@ -70,14 +70,23 @@ div-plain (fin s m e) (fin true n d) h k = absurd k
 div-plain (fin s m e) (fin false n d) h k = rw (not-zero n k, h) (round-plain binary64 (m * up e * down d) (n * up d * down e))
 
 -- ---- the steps
+module _ (i : ℕ) (w : T (positive (asFloat i))) where
+  times-plain : (top : ℕ) (p : Float) → Plain p → Plain (timesIn top i p)
+  unfolding timesIn
+  times-plain top p k = cond-plain (leb i top) (mul binary64 p (asFloat i)) p (mul-plain p (asFloat i) k w) k
+
+  over-plain : (bottom : ℕ) (p : Float) → Plain p → Plain (overIn bottom i p)
+  unfolding overIn
+  over-plain bottom p k = cond-plain (leb i bottom) (div binary64 p (asFloat i)) p (div-plain p (asFloat i) k w) k
+
 module _ (minTop minBottom maxTop maxBottom : ℕ) where
+  -- each of the four steps keeps it, in whatever order they stand
   at-plain : (i : ℕ) (p : Float) → 0 < i → i ≤ 2 ^ 53 → Plain p → Plain (atFactor minTop minBottom maxTop maxBottom i p)
-  unfolding atFactor timesIn overIn
+  unfolding atFactor
   at-plain i p l h k =
       let w = positive-of-value (asFloat i) i 1 (whole-exact i h) l in
-      let times : (top : ℕ) (q : Float) → Plain q → Plain (timesIn top i q) = λ top q z. cond-plain (leb i top) _ q (mul-plain q (asFloat i) z w) z in
-      let over : (bottom : ℕ) (q : Float) → Plain q → Plain (overIn bottom i q) = λ bottom q z. cond-plain (leb i bottom) _ q (div-plain q (asFloat i) z w) z in
-      over maxBottom _ (times maxTop _ (over minBottom _ (times minTop p k)))
+      let either = cond-plain in
+      search (times-plain, over-plain)
 
   factors-plain : (n i : ℕ) (p : Float) → n + i ≤ 2 ^ 53 → Plain p → Plain (factors minTop minBottom maxTop maxBottom n i p)
   unfolding factors
