@@ -24,7 +24,7 @@ use Rattle.draws.specs.Request.{parameterRefusals, readingOf, drawOf}
 use Rattle.draws.specs.Demand2.{conditions}
 
 -- each kind by the rule of its module
-abbrev kindOf : Request → List ℕ → Outcome ℕ
+abbrev pub kindOf : Request → List ℕ → Outcome ℕ
 kindOf (Hypergeometric N K n) ws = hypergeometric N K n ws
 kindOf (Poisson T) ws = poisson (ofBits binary64 T) ws
 kindOf (Geometric p) ws = geometric (ofBits binary64 p) ws

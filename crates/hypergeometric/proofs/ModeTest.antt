@@ -19,12 +19,9 @@ use lib.Ieee.Positive.{num, den, den-pos, positive, own-value, positive-of-value
 use Rattle.words.specs.Words.{ratio}
 use Rattle.hypergeometric.specs.First.{asFloat}
 use Rattle.hypergeometric.specs.RustTest.{floor, larger, rustMode, rustTakes}
+use Rattle.hypergeometric.proofs.Factors.{whole-exact}
 
--- ---- exact numbers as floats: their test, difference and quotient
--- up to 2^53 they are exact
-exact : (n : ℕ) → n ≤ 2 ^ 53 → HasValue (ratio n 1) false n 1
-exact n h = round-whole binary64 false n h
-
+-- ---- whole numbers as floats: their test, difference and quotient
 -- two orders that hold together are one test
 ltb-same : (a b c d : ℕ) → (c < d → a < b) → (d ≤ c → b ≤ a) → ltb a b ≡ ltb c d
 ltb-same a b c d f g = go (ltb c d) refl
@@ -86,12 +83,12 @@ pub product-exact : (n1 k : ℕ) → n1 ≤ 1048576 → k ≤ 1048576
     → HasValue (mul binary64 (asFloat (k + 1)) (asFloat (n1 + 1))) false ((k + 1) * (n1 + 1)) 1
 unfolding ofInt
 product-exact n1 k h j =
-    let v = exact (k + 1) (omega arith) in
-    let w = exact (n1 + 1) (omega arith) in
+    let v = whole-exact (k + 1) (omega arith) in
+    let w = whole-exact (n1 + 1) (omega arith) in
     let p = positive-of-value (ratio (k + 1) 1) (k + 1) 1 v (omega arith) in
     let q = positive-of-value (ratio (n1 + 1) 1) (n1 + 1) 1 w (omega arith) in
     rw (mul-at binary64 _ _ (k + 1) 1 (n1 + 1) 1 p q (pow-pos 0) (pow-pos 0) v w)
-    (exact ((k + 1) * (n1 + 1)) (small n1 k h j))
+    (whole-exact ((k + 1) * (n1 + 1)) (small n1 k h j))
 
 -- A / B is at most 10 - 1 / B, and so at most 10 - 2^-21, which is a float below 10
 pub below-ten : (A B : ℕ) → A < 10 * B → B ≤ 1048578 → T (le (ratio A B) (ratio (10 * 2 ^ 21 - 1) (2 ^ 21)))
@@ -110,11 +107,11 @@ not-above (fin true m e) a v = refl
 -- k - n2 is negative or 0
 pub no-excess : (k n2 : ℕ) → k ≤ n2 → n2 ≤ 2 ^ 53 → larger (ratio 0 1) (sub binary64 (asFloat k) (asFloat n2)) ≡ ratio 0 1
 unfolding larger sum ofInt
-no-excess k n2 h j = rw (sub-whole (ratio k 1) (ratio n2 1) k n2 (exact k (omega arith)) (exact n2 j), go (ltb k n2))
+no-excess k n2 h j = rw (sub-whole (ratio k 1) (ratio n2 1) k n2 (whole-exact k (omega arith)) (whole-exact n2 j), go (ltb k n2))
   where
     go : (t : Bool) → lt (ratio 0 1) (cond t (round binary64 true (n2 - k) 1) (ratio (k - n2) 1)) ≡ false
     go true = not-above (round binary64 true (n2 - k) 1) (n2 - k) (round-whole binary64 true (n2 - k) (omega arith))
-    go false = lt-whole (ratio 0 1) (ratio (k - n2) 1) 0 (k - n2) (exact 0 zero-le) (exact (k - n2) (omega arith)) ∙ le-ltb 0 (k - n2) (omega arith)
+    go false = lt-whole (ratio 0 1) (ratio (k - n2) 1) 0 (k - n2) (whole-exact 0 zero-le) (whole-exact (k - n2) (omega arith)) ∙ le-ltb 0 (k - n2) (omega arith)
 
 -- ---- the quotient's whole part
 -- it lies between 2^-21 and 2^53
@@ -146,12 +143,12 @@ unfolding floor
 floor-is (fin true m e) p = absurd p
 floor-is (fin false m e) p = refl
 
--- +0 taken from a exact number leaves it
+-- +0 taken from a whole number leaves it
 whole-test : (c : ℕ) → c ≤ 2 ^ 53 → lt (sub binary64 (ratio c 1) (ratio 0 1)) (ratio 10 1) ≡ ltb c 10
-unfolding sum
+unfolding sum ofInt
 whole-test c h =
-    rw (sub-whole (ratio c 1) (ratio 0 1) c 0 (exact c h) (exact 0 zero-le), le-ltb c 0 zero-le, sub-zero)
-    (lt-whole (ratio c 1) (ratio 10 1) c 10 (exact c h) (exact 10 (lit≤ tt)))
+    rw (sub-whole (ratio c 1) (ratio 0 1) c 0 (whole-exact c h) (whole-exact 0 zero-le), le-ltb c 0 zero-le, sub-zero)
+    (lt-whole (ratio c 1) (ratio 10 1) c 10 (whole-exact c h) (whole-exact 10 (lit≤ tt)))
 
 -- the whole part is below 10 exactly where A / B is
 pub mode-agrees : (N n1 n2 k : ℕ) → N ≤ 1048576 → n1 ≤ N → k ≤ n2 → n2 ≤ N
@@ -165,6 +162,6 @@ mode-agrees N n1 n2 k hN h1 hk h2 =
     let s = small n1 k (omega arith) (omega arith) in
     let r = in-range A B (mul-pos {m = k + 1} {n = n1 + 1} (omega arith) (omega arith)) s (omega arith) (omega arith) in
     let x = product-exact n1 k (omega arith) (omega arith) in
-    rw (div-whole _ (asFloat B) A B (omega arith) x (exact B (omega arith)), floor-is q (r .0), no-excess k n2 hk (omega arith))
+    rw (div-whole _ (asFloat B) A B (omega arith) x (whole-exact B (omega arith)), floor-is q (r .0), no-excess k n2 hk (omega arith))
     (whole-test c (cut-top q (r .0) (r .1))
     ∙ ltb-same c 10 A (10 * B) (λ h. cut-below q (r .0) (below-ten A B h (omega arith))) (λ h. cut-from q (r .0) (from-ten A B (omega arith) h)))

@@ -13,7 +13,7 @@ use Rattle.words.specs.Rule.{Local}
 use Rattle.words.specs.Refusals.{Condition, _on_, given, First, NoneHolds}
 use Rattle.words.specs.Draw.{endsBy, refusals, draw}
 use Rattle.words.proofs.Tape.{within-limit, limit-within}
-use Rattle.words.proofs.Exactly.{first-given, first-before, exactly, some-after, none-passes, none-before, drawn-exactly}
+use Rattle.words.proofs.Exactly.{first-given, first-before, exactly, some-after, given-append, none-given, none-before, drawn-exactly}
 
 -- The order for a draw (01, 'Refusal numbers'): 1 is given before any parameter is looked at, and a parameter's refusal before any word is read.
 module _ {A : Type 0} (ws : List ℕ) (ps : List Condition) (o : Outcome A) where
@@ -52,7 +52,7 @@ module _ {A : Type 0} (ws : List ℕ) (ps : List Condition) where
 
   -- where no parameter is refused, only the tape decides
   pub draw-passed : (o : Outcome A) → NoneHolds ps → draw ws ps o ≡ draw ws [] o
-  draw-passed o h = ap (cond (tooLong ws) (refused 1)) (none-passes ps (ending o) o h)
+  draw-passed o h = ap (cond (tooLong ws) (refused 1)) (given-append ps (ending o) o ∙ none-given ps (given (ending o) o) h)
 
   -- Each refusal exactly on its condition, none earlier holding: of a reading that is refused by 10 alone.
   pub draw-exactly : (o : Outcome A) → ((n : ℕ) → o ≡ refused n → n ≡ 10) → (n : ℕ) → (draw ws ps o ≡ refused n) ↔ First n (refusals ws ps o)

@@ -63,10 +63,15 @@ some-after (c ∷ cs) ds s = go (some-after cs ds s) (c .holds) refl
     go rest true t = (c .number, inl (t, refl))
     go rest false t = (rest .0, inr (t, rest .1))
 
--- where no condition of a list holds, what comes after it decides
-pub none-passes : {A : Type 0} (cs ds : List Condition) (o : Outcome A) → NoneHolds cs → given (cs ++ ds) o ≡ given ds o
-none-passes [] ds o h = refl
-none-passes (c ∷ cs) ds o h = simp (h .0) (none-passes cs ds o (h .1))
+-- a list's end decides what its beginning passes on
+pub given-append : {A : Type 0} (cs ds : List Condition) (o : Outcome A) → given (cs ++ ds) o ≡ given cs (given ds o)
+given-append [] ds o = refl
+given-append (c ∷ cs) ds o = ap (cond (c .holds) (refused (c .number))) (given-append cs ds o)
+
+-- where no condition of a list holds, it passes everything on
+pub none-given : {A : Type 0} (cs : List Condition) (o : Outcome A) → NoneHolds cs → given cs o ≡ o
+none-given [] o h = refl
+none-given (c ∷ cs) o h = simp (h .0) (none-given cs o (h .1))
 
 pub none-before : (cs ds : List Condition) → NoneHolds (cs ++ ds) → NoneHolds cs
 none-before [] ds h = tt
@@ -75,7 +80,7 @@ none-before (c ∷ cs) ds h = (h .0, none-before cs ds (h .1))
 -- The law's other half: a call draws exactly where no condition holds and it comes to a draw by itself.
 pub drawn-exactly : {A : Type 0} (cs : List Condition) (o : Outcome A) (a : A) (u : ℕ)
     → (given cs o ≡ drawn a u) ↔ (NoneHolds cs × (o ≡ drawn a u))
-drawn-exactly {A} cs o a u = (to cs, λ h. from cs (h .0) ∙ h .1)
+drawn-exactly {A} cs o a u = (to cs, λ h. none-given cs o (h .0) ∙ h .1)
   where
     to : (cs : List Condition) → given cs o ≡ drawn a u → NoneHolds cs × (o ≡ drawn a u)
     to [] e = (tt, e)
@@ -85,7 +90,3 @@ drawn-exactly {A} cs o a u = (to cs, λ h. from cs (h .0) ∙ h .1)
             → (b : Bool) → c .holds ≡ b → cond b (refused (c .number)) (given cs o) ≡ drawn a u → NoneHolds (c ∷ cs) × (o ≡ drawn a u)
         go rest true t x = refused-not-drawn (c .number) a u x
         go rest false t x = let r = rest x in ((t, r .0), r .1)
-
-    from : (cs : List Condition) → NoneHolds cs → given cs o ≡ o
-    from [] h = refl
-    from (c ∷ cs) h = simp (h .0) (from cs (h .1))
