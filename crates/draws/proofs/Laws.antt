@@ -1,22 +1,24 @@
 -- Laws of a request's draw, of any kind: each refusal exactly on its condition, the words that it looks at, and the bounds of its count
 -- and words used. Each follows from the law of the kind. Assumes nothing.
 use mathlib.Core.Path.{_≡_, refl}
-use mathlib.Core.List.{List}
+use mathlib.Core.List.{List, [], _∷_}
 use mathlib.Core.Logic.{_⊎_, inl, inr, _↔_}
 use Prim.Native.Nat.{ℕ, _-_, _^_, _≤_, _<_}
 use native.Mathlib.Omega.{arith}
+use lib.Dec.{lit<}
 use lib.ListN.{length, take}
 use lib.Ieee.{binary64, ofBits}
 use Rattle.words.specs.Words.{mostWords}
 use Rattle.words.specs.Outcome.{Outcome, drawn, refused}
-use Rattle.words.specs.Refusals.{First}
-use Rattle.poisson.specs.Poisson.{poisson}
+use Rattle.words.specs.Refusals.{Condition, First}
+use Rattle.words.proofs.Reading.{reading-used, reading-short}
+use Rattle.poisson.specs.Poisson.{poisson, knuthRule}
 use Rattle.poisson.proofs.Laws.{poisson-exactly, poisson-bounds, poisson-local}
 use Rattle.geometric.specs.Geometric.{geometric}
-use Rattle.geometric.specs.Standard.{standardGeometric}
-use Rattle.geometric.proofs.GeometricLaws.{geometric-exactly, geometric-used, geometric-count, geometric-local}
+use Rattle.geometric.specs.Standard.{standardGeometric, standardRule}
+use Rattle.geometric.proofs.GeometricLaws.{reading-drew, reading-ends, geometric-exactly, geometric-used, geometric-count, geometric-local}
 use Rattle.geometric.proofs.StandardLaws.{standard-exactly, standard-bounds, standard-local}
-use Rattle.hypergeometric.specs.Hypergeometric.{hypergeometric}
+use Rattle.hypergeometric.specs.Hypergeometric.{hypergeometric, setUp, trayRefusals, inversionRule}
 use Rattle.hypergeometric.proofs.Laws.{hypergeometric-exactly, hypergeometric-used, hypergeometric-bounds, hypergeometric-local}
 use Rattle.draws.specs.declared.Request.{Request}
 use Rattle.draws.specs.declared.Request.the-variants.{Hypergeometric, Poisson, Geometric, StandardGeometric}
@@ -44,6 +46,42 @@ request-exactly (Hypergeometric N K n) ws = hypergeometric-exactly N K n ws
 request-exactly (Poisson T) ws = poisson-exactly (ofBits binary64 T) ws
 request-exactly (Geometric p) ws = geometric-exactly (ofBits binary64 p) ws
 request-exactly StandardGeometric ws = standard-exactly ws
+
+-- a reading is refused by 10 alone
+pub request-ends : (r : Request) (ws : List ℕ) (n : ℕ) → readingOf r ws ≡ refused n → n ≡ 10
+unfolding readingOf
+request-ends (Hypergeometric N K n) ws = reading-short (inversionRule (setUp N K n)) 10 (λ s. refl) ws
+request-ends (Poisson T) ws = reading-short (knuthRule (ofBits binary64 T)) 10 (λ s. refl) ws
+request-ends (Geometric p) ws = reading-ends (ofBits binary64 p) ws
+request-ends StandardGeometric ws = reading-short standardRule 10 (λ s. refl) ws
+
+-- and uses at most the words that there are
+pub request-within : (r : Request) (ws : List ℕ) (c u : ℕ) → readingOf r ws ≡ drawn c u → u ≤ length ws
+unfolding readingOf
+request-within (Hypergeometric N K n) ws c u e = reading-used (inversionRule (setUp N K n)) ws c u e
+request-within (Poisson T) ws c u e = reading-used (knuthRule (ofBits binary64 T)) ws c u e
+request-within (Geometric p) ws c u e = reading-drew (ofBits binary64 p) ws c u e .1
+request-within StandardGeometric ws c u e = reading-used standardRule ws c u e
+
+-- the parameters' refusals have numbers below 10
+abbrev Below : List Condition → Type 0
+Below [] = Unit
+Below (c ∷ cs) = (c .number < 10) × Below cs
+
+first-below : (cs : List Condition) (n : ℕ) → Below cs → First n cs → n < 10
+first-below [] n b f = absurd f
+first-below (c ∷ cs) n b (inl h) = omega (arith, b .0, h .1)
+first-below (c ∷ cs) n b (inr h) = first-below cs n (b .1) (h .1)
+
+below-ten : (r : Request) → Below (parameterRefusals r)
+unfolding parameterRefusals trayRefusals
+below-ten (Hypergeometric N K n) = (lit< tt, (lit< tt, (lit< tt, (lit< tt, (lit< tt, tt)))))
+below-ten (Poisson T) = (lit< tt, tt)
+below-ten (Geometric p) = (lit< tt, (lit< tt, tt))
+below-ten StandardGeometric = tt
+
+pub parameters-below : (r : Request) (n : ℕ) → First n (parameterRefusals r) → n < 10
+parameters-below r n f = first-below (parameterRefusals r) n (below-ten r) f
 
 -- an accepted draw looks at the words that it reports as used and at no others, over tapes within the limit
 pub request-local : (r : Request) (ws vs : List ℕ) (c u : ℕ) → drawOf r ws ≡ drawn c u

@@ -201,7 +201,7 @@ module _ (p : Float) (ws : List ℕ) where
   by-drew false false c u l n x =
       (bySearch l n (search-searched (qOf p) (2 ^ squares (qOf p) .k) (squares (qOf p) .pi) ws c u x), reading-used searched ws c u x)
 
-  reading-drew : (c u : ℕ) → geometricReading p ws ≡ drawn c u → Drew c u × (u ≤ length ws)
+  pub reading-drew : (c u : ℕ) → geometricReading p ws ≡ drawn c u → Drew c u × (u ≤ length ws)
   reading-drew c u e = by-drew (isLarge p) (isNever p) c u refl refl (sym reading-by ∙ e)
 
   by-ends : (large none : Bool) (n : ℕ) → by large none ≡ refused n → n ≡ 10
@@ -210,10 +210,14 @@ module _ (p : Float) (ws : List ℕ) where
   by-ends false true n x = refused-not-drawn n (2 ^ 64 - 1) 0 (sym x)
   by-ends false false n x = reading-short searched 10 (λ s. refl) ws n x
 
+  -- a reading is refused by 10 alone
+  pub reading-ends : (n : ℕ) → geometricReading p ws ≡ refused n → n ≡ 10
+  reading-ends n x = by-ends (isLarge p) (isNever p) n (sym reading-by ∙ x)
+
   -- each refusal is given exactly on its condition, none earlier holding
   pub geometric-exactly : (n : ℕ) → (geometric p ws ≡ refused n) ↔ First n (refusals ws (probabilityRefusals p) (geometricReading p ws))
   unfolding geometric
-  geometric-exactly = draw-exactly ws (probabilityRefusals p) (geometricReading p ws) (λ n x. by-ends (isLarge p) (isNever p) n (sym reading-by ∙ x))
+  geometric-exactly = draw-exactly ws (probabilityRefusals p) (geometricReading p ws) reading-ends
 
 reading-local-of : (p : Float) → Local (geometricReading p)
 unfolding geometricReading
