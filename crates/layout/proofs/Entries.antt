@@ -1,0 +1,201 @@
+-- Laws of one entry: what was written is read, and what was read is written. Assumes nothing.
+use mathlib.Core.Path.{_≡_, refl, sym, ap, ap₂, _∙_}
+use mathlib.Core.List.{List, [], _∷_, _++_, append-assoc}
+use Prim.Native.Nat.{ℕ, zero, suc, _+_, _*_, _^_, _<_, _≤_}
+use native.Mathlib.Omega.{arith}
+use lib.ListN.{length, take, drop, length-append, length-drop}
+use lib.Seq.{drop-at, take-add, drop-drop}
+use Rattle.bytes_le.specs.LittleEndian.{bytesOf, spelled}
+use Rattle.bytes_le.proofs.Numbers.{Bytes, bytes-drop, length-bytes, spelled-bytes, spelled-lt, bytes-spelled}
+use Rattle.layout.specs.Kinds.{shapeOf, lengthIn, parametersIn, kindNumber, parametersOf, lengthOf, requestOf, AllFit, RequestFits}
+use Rattle.layout.specs.Entry.{Entry, parameterBytes, fixedBytes, entryBytes, lengthAt, kindAt, serialAt, placeAt, usedAt, countAt, parametersFrom, parametersAt, entryAt}
+use Rattle.layout.proofs.Table.{shape-length, length-small, request-shape, request-length, request-again, kind-fits, kind-again}
+
+-- an entry's numbers fit their fields
+pub record Fits (e : Entry) : Type 0 where
+  pub request-fits : RequestFits (e .request)
+  pub serial-fits : e .serial < 2 ^ 32
+  pub place-fits : e .place < 2 ^ 32
+  pub used-fits : e .used < 2 ^ 32
+  pub count-fits : e .count < 2 ^ 64
+
+-- ---- what was written is read
+
+read-parameters : (ps : List ℕ) (r : List ℕ) → AllFit ps → parametersFrom (length ps) (parameterBytes ps ++ r) ≡ ps
+unfolding parametersFrom parameterBytes
+read-parameters [] r h = refl
+read-parameters (x ∷ xs) r h =
+    let whole = append-assoc (bytesOf 8 x) (parameterBytes xs) r in
+    ap₂ (λ (a : ℕ) (b : List ℕ). a ∷ b) (ap (spelled 8) whole ∙ spelled-bytes 8 x (parameterBytes xs ++ r) (h .0))
+    (ap (λ (l : List ℕ). parametersFrom (length xs) (drop 8 l)) whole
+    ∙ ap (parametersFrom (length xs)) (drop-at (bytesOf 8 x) (parameterBytes xs ++ r) 8 (length-bytes 8 x))
+    ∙ read-parameters xs r (h .1))
+
+length-parameters : (ps : List ℕ) → length (parameterBytes ps) ≡ 8 * length ps
+unfolding parameterBytes
+length-parameters [] = refl
+length-parameters (x ∷ xs) = simp (length-append, length-bytes) (omega (arith, length-parameters xs))
+
+pub length-fixed : (e : Entry) → length (fixedBytes e) ≡ 24
+unfolding fixedBytes
+length-fixed e = simp (length-append, length-bytes)
+
+pub length-entry : (e : Entry) → length (entryBytes e) ≡ lengthOf (e .request)
+unfolding entryBytes
+length-entry e =
+    length-append (fixedBytes e) (parameterBytes (parametersOf (e .request)))
+    ∙ omega (arith, length-fixed e, length-parameters (parametersOf (e .request)), request-length (e .request))
+
+-- the fields as they lie, before the bytes r
+fields : Entry → List ℕ → List ℕ
+fields e r =
+    bytesOf 2 (lengthOf (e .request))
+    ++ (bytesOf 2 (kindNumber (e .request))
+    ++ (bytesOf 4 (e .serial)
+    ++ (bytesOf 4 (e .place)
+    ++ (bytesOf 4 (e .used)
+    ++ (bytesOf 8 (e .count)
+    ++ (parameterBytes (parametersOf (e .request)) ++ r))))))
+
+as-fields : (e : Entry) (r : List ℕ) → entryBytes e ++ r ≡ fields e r
+unfolding entryBytes fixedBytes fields
+as-fields e r = simp append-assoc
+
+module _ (e : Entry) (r : List ℕ) (fits : Fits e) where
+  read-length : lengthAt (fields e r) 0 ≡ lengthOf (e .request)
+  unfolding fields
+  read-length = spelled-bytes 2 (lengthOf (e .request)) _ (length-small (kindNumber (e .request)))
+
+  read-kind : kindAt (fields e r) 0 ≡ kindNumber (e .request)
+  unfolding fields bytesOf
+  read-kind = spelled-bytes 2 (kindNumber (e .request)) _ (kind-fits (e .request))
+
+  read-serial : serialAt (fields e r) 0 ≡ e .serial
+  unfolding fields bytesOf
+  read-serial = spelled-bytes 4 (e .serial) _ (fits .serial-fits)
+
+  read-place : placeAt (fields e r) 0 ≡ e .place
+  unfolding fields bytesOf
+  read-place = spelled-bytes 4 (e .place) _ (fits .place-fits)
+
+  read-used : usedAt (fields e r) 0 ≡ e .used
+  unfolding fields bytesOf
+  read-used = spelled-bytes 4 (e .used) _ (fits .used-fits)
+
+  read-count : countAt (fields e r) 0 ≡ e .count
+  unfolding fields bytesOf
+  read-count = spelled-bytes 8 (e .count) _ (fits .count-fits)
+
+  read-rest : parametersFrom (parametersIn (shapeOf (kindNumber (e .request)))) (drop 24 (fields e r)) ≡ parametersOf (e .request)
+  unfolding fields bytesOf
+  read-rest =
+      ap (λ (k : ℕ). parametersFrom k (parameterBytes (parametersOf (e .request)) ++ r)) (sym (request-shape (e .request)))
+      ∙ read-parameters (parametersOf (e .request)) r (fits .request-fits)
+
+  read-request : requestOf (kindAt (fields e r) 0) (parametersAt (fields e r) 0) ≡ e .request
+  read-request =
+      ap (λ (k : ℕ). requestOf k (parametersFrom (parametersIn (shapeOf k)) (drop 24 (fields e r)))) read-kind
+      ∙ ap (requestOf (kindNumber (e .request))) read-rest
+      ∙ request-again (e .request)
+
+  read-fields : entryAt (fields e r) 0 ≡ e
+  unfolding entryAt
+  read-fields = λ i.
+      record { request = read-request i; serial = read-serial i; place = read-place i; used = read-used i; count = read-count i }
+
+  -- an entry's bytes are read as the entry, whatever follows them
+  pub entry-read : entryAt (entryBytes e ++ r) 0 ≡ e
+  entry-read = ap (λ (l : List ℕ). entryAt l 0) (as-fields e r) ∙ read-fields
+
+  pub length-read : lengthAt (entryBytes e ++ r) 0 ≡ lengthOf (e .request)
+  length-read = ap (λ (l : List ℕ). lengthAt l 0) (as-fields e r) ∙ read-length
+
+  pub kind-read : kindAt (entryBytes e ++ r) 0 ≡ kindNumber (e .request)
+  kind-read = ap (λ (l : List ℕ). kindAt l 0) (as-fields e r) ∙ read-kind
+
+  pub serial-read : serialAt (entryBytes e ++ r) 0 ≡ e .serial
+  serial-read = ap (λ (l : List ℕ). serialAt l 0) (as-fields e r) ∙ read-serial
+
+  pub place-read : placeAt (entryBytes e ++ r) 0 ≡ e .place
+  place-read = ap (λ (l : List ℕ). placeAt l 0) (as-fields e r) ∙ read-place
+
+  pub rest-read : drop (lengthAt (entryBytes e ++ r) 0) (entryBytes e ++ r) ≡ r
+  rest-read = ap (λ (k : ℕ). drop k (entryBytes e ++ r)) length-read ∙ drop-at (entryBytes e) r (lengthOf (e .request)) (length-entry e)
+
+-- ---- what was read is written
+
+written-parameters : (k : ℕ) (l : List ℕ) → Bytes l → 8 * k ≤ length l → parameterBytes (parametersFrom k l) ≡ take (8 * k) l
+unfolding parametersFrom parameterBytes
+written-parameters zero l h f = refl
+written-parameters (suc k) l h f =
+    let e : 8 * suc k ≡ 8 + 8 * k = omega arith in
+    ap₂ (λ (a b : List ℕ). a ++ b) (bytes-spelled 8 l h (omega arith))
+    (written-parameters k (drop 8 l) (bytes-drop l 8 h) (rw length-drop (omega arith)))
+    ∙ sym (ap (λ (m : ℕ). take m l) e ∙ take-add 8 (8 * k) l)
+
+parameters-fit : (k : ℕ) (l : List ℕ) → Bytes l → AllFit (parametersFrom k l)
+unfolding parametersFrom
+parameters-fit zero l h = tt
+parameters-fit (suc k) l h = (spelled-lt 8 l h, parameters-fit k (drop 8 l) (bytes-drop l 8 h))
+
+length-parametersFrom : (k : ℕ) (l : List ℕ) → length (parametersFrom k l) ≡ k
+unfolding parametersFrom
+length-parametersFrom zero l = refl
+length-parametersFrom (suc k) l = ap suc (length-parametersFrom k (drop 8 l))
+
+-- a field read and written again is the bytes that were there
+field : (k i : ℕ) (l : List ℕ) → Bytes l → i + k ≤ length l → bytesOf k (spelled k (drop i l)) ≡ take k (drop i l)
+field k i l h f = bytes-spelled k (drop i l) (bytes-drop l i h) (rw length-drop (omega arith))
+
+-- bytes at whose front an entry of one of the table's kinds lies whole
+module _ (l : List ℕ) (by : Bytes l) (known : 0 < lengthIn (shapeOf (kindAt l 0))) where
+  abbrev kind : ℕ
+  kind = kindAt l 0
+
+  again : (kindNumber (entryAt l 0 .request) ≡ kindAt l 0) × (parametersOf (entryAt l 0 .request) ≡ parametersAt l 0)
+  unfolding entryAt
+  again = kind-again kind (parametersAt l 0) known (length-parametersFrom (parametersIn (shapeOf kind)) (drop 24 l))
+
+  -- its numbers fit their fields
+  pub entry-fits : Fits (entryAt l 0)
+  unfolding entryAt
+  entry-fits =
+      record {
+        request-fits = rw (again .1) (parameters-fit (parametersIn (shapeOf kind)) (drop 24 l) (bytes-drop l 24 by));
+        serial-fits = spelled-lt 4 (drop 4 l) (bytes-drop l 4 by);
+        place-fits = spelled-lt 4 (drop 8 l) (bytes-drop l 8 by);
+        used-fits = spelled-lt 4 (drop 12 l) (bytes-drop l 12 by);
+        count-fits = spelled-lt 8 (drop 16 l) (bytes-drop l 16 by);
+      }
+
+  pub entry-length : lengthOf (entryAt l 0 .request) ≡ lengthIn (shapeOf (kindAt l 0))
+  entry-length = ap (λ (k : ℕ). lengthIn (shapeOf k)) (again .0)
+
+  -- what was read and is written again
+  module _ (sized : lengthAt l 0 ≡ lengthIn (shapeOf (kindAt l 0))) (inside : lengthAt l 0 ≤ length l) where
+    abbrev n : ℕ
+    n = parametersIn (shapeOf kind)
+
+    long : lengthAt l 0 ≡ 24 + 8 * n
+    long = sized ∙ shape-length kind known
+
+    -- the k bytes from i on and the m after them are the k + m from i on
+    glue : (i k m : ℕ) → take k (drop i l) ++ take m (drop (i + k) l) ≡ take (k + m) (drop i l)
+    glue i k m = ap (λ (x : List ℕ). take k (drop i l) ++ take m x) (sym (drop-drop k i l)) ∙ sym (take-add k m (drop i l))
+
+    fixed-written : fixedBytes (entryAt l 0) ≡ take 24 l
+    unfolding fixedBytes entryAt
+    fixed-written =
+        let room : 24 + 8 * n ≤ length l = omega (arith, long, inside) in
+        let f0 : bytesOf 2 (lengthOf (entryAt l 0 .request)) ≡ take 2 l = ap (bytesOf 2) (entry-length ∙ sym sized) ∙ bytes-spelled 2 l by (omega arith) in
+        let f1 : bytesOf 2 (kindNumber (entryAt l 0 .request)) ≡ take 2 (drop 2 l) = ap (bytesOf 2) (again .0) ∙ field 2 2 l by (omega arith) in
+        rw (f0, f1, field 4 4 l by (omega arith), field 4 8 l by (omega arith), field 4 12 l by (omega arith), field 8 16 l by (omega arith))
+        (rw (glue 12 4 8, glue 8 4 12, glue 4 4 16, glue 2 2 20) (sym (take-add 2 22 l)))
+
+    pub entry-written : entryBytes (entryAt l 0) ≡ take (lengthAt l 0) l
+    unfolding entryBytes
+    entry-written =
+        let room : 24 + 8 * n ≤ length l = omega (arith, long, inside) in
+        ap₂ (λ (a b : List ℕ). a ++ b) fixed-written
+        (ap parameterBytes (again .1) ∙ written-parameters n (drop 24 l) (bytes-drop l 24 by) (rw length-drop (omega arith)))
+        ∙ sym (ap (λ (m : ℕ). take m l) long ∙ take-add 24 (8 * n) l)

@@ -1,0 +1,195 @@
+-- Which way `head` goes by what is read, and what a turn of the walk does. Assumes nothing.
+use mathlib.Core.Path.{_≡_, refl, sym, ap, ap₂, _∙_}
+use mathlib.Core.Bool.{Bool, true, false, cond, and-false}
+use mathlib.Core.List.{List, [], _∷_}
+use mathlib.Core.Option.{Option, none, some, Option·map}
+use Prim.Native.Nat.{ℕ, suc, _+_, _-_, _^_, _<_, _≤_}
+use native.Mathlib.Numerals.{add-one}
+use native.Mathlib.Omega.{arith}
+use lib.ListN.{length, drop, length-drop}
+use lib.Seq.{drop-drop}
+use borrow.Author.Tests.{lt-ltb, le-ltb, le-leb, lt-leb, eq-eqb, ne-eqb}
+use Rattle.bytes_le.specs.LittleEndian.{spelled}
+use Rattle.bytes_le.specs.Zeros.{allZero}
+use Rattle.bytes_le.proofs.Numbers.{Bytes, bytes-drop, spelled-lt}
+use Rattle.layout.specs.declared.Head.the-variants.{End, Damage, Next}
+use Rattle.layout.specs.declared.Walked.{Walked}
+use Rattle.layout.specs.declared.Walked.the-variants.{Damaged, Sound}
+use Rattle.layout.specs.Kinds.{shapeOf, lengthIn, lengthOf}
+use Rattle.layout.specs.Entry.{Entry, lengthAt, kindAt, serialAt, placeAt, usedAt, entryAt}
+use Rattle.layout.specs.Book.{lengthAll, usedAll, head, isClosed, decodeFrom, decode}
+use Rattle.layout.specs.Sound.{offset}
+use Rattle.layout.specs.Walk.{telling, walked}
+use Rattle.layout.proofs.Table.{shape-length}
+use Rattle.layout.proofs.Decoding.{head-next, fitting-known, fitting-size}
+
+-- ---- the head at `at`, by what the code reads: `left` bytes are left, and n is the length there
+
+module _ (b : List ℕ) (at s p left n : ℕ) (el : left ≡ length b - at) (en : n ≡ lengthAt b at) where
+  is-left : left ≡ length (drop at b)
+  is-left = el ∙ sym (length-drop at b)
+
+  pub head-short : left < 2 → End ≡ head s p (drop at b)
+  unfolding head
+  head-short h = rw (← is-left, lt-ltb left 2 h)
+
+  pub head-zero : 2 ≤ left → n ≡ 0 → End ≡ head s p (drop at b)
+  unfolding head
+  head-zero h z = rw (← is-left, le-ltb left 2 h, ← en, eq-eqb n 0 z)
+
+  module _ (h : 2 ≤ left) (z : n ≡ 0 → ⊥) where
+    pub head-over : left < n → Damage ≡ head s p (drop at b)
+    unfolding head
+    head-over o = rw (← is-left, le-ltb left 2 h, ← en, ne-eqb n 0 z, lt-leb n left o, and-false)
+
+    module _ (o : n ≤ left) (kind : ℕ) (ek : kind ≡ kindAt b at) where
+      is-kind : kindAt (drop at b) 0 ≡ kind
+      is-kind = ap (spelled 2) (drop-drop 2 at b) ∙ sym ek
+
+      -- the length is not its kind's
+      pub head-other : (m : ℕ) → m ≡ lengthIn (shapeOf kind) → (n ≡ m → ⊥) → Damage ≡ head s p (drop at b)
+      unfolding head
+      head-other m e f = rw (← is-left, le-ltb left 2 h, ← en, ne-eqb n 0 z, is-kind, ← e, ne-eqb n m f)
+
+      -- no entry is shorter than 24
+      pub head-tiny : n < 24 → Damage ≡ head s p (drop at b)
+      head-tiny t = head-other (lengthIn (shapeOf kind)) refl (λ e. omega (arith, shape-length kind (omega (arith, z))))
+
+      module _ (m : ℕ) (e : m ≡ lengthIn (shapeOf kind)) (f : n ≡ m) (serial : ℕ) (es : serial ≡ serialAt b at) where
+        is-serial : serialAt (drop at b) 0 ≡ serial
+        is-serial = ap (spelled 4) (drop-drop 4 at b) ∙ sym es
+
+        pub head-serial : (serial ≡ s → ⊥) → Damage ≡ head s p (drop at b)
+        unfolding head
+        head-serial w =
+            rw (← is-left, le-ltb left 2 h, ← en, ne-eqb n 0 z, is-kind, ← e, eq-eqb n m f, le-leb n left o, is-serial, ne-eqb serial s w)
+
+        module _ (w : serial ≡ s) (place : ℕ) (ep : place ≡ placeAt b at) where
+          is-place : placeAt (drop at b) 0 ≡ place
+          is-place = ap (spelled 4) (drop-drop 8 at b) ∙ sym ep
+
+          pub head-place : (place ≡ p → ⊥) → Damage ≡ head s p (drop at b)
+          unfolding head
+          head-place v =
+              rw (← is-left, le-ltb left 2 h, ← en, ne-eqb n 0 z, is-kind, ← e, eq-eqb n m f, le-leb n left o, is-serial, eq-eqb serial s w, is-place, ne-eqb place p v)
+
+          pub head-found : place ≡ p → Next ≡ head s p (drop at b)
+          unfolding head
+          head-found v =
+              rw (← is-left, le-ltb left 2 h, ← en, ne-eqb n 0 z, is-kind, ← e, eq-eqb n m f, le-leb n left o, is-serial, eq-eqb serial s w, is-place, eq-eqb place p v)
+
+-- ---- past the last entry
+
+pub closed-over : (t p : ℕ) (l : List ℕ) (x : Walked) → t < p → Damaged ≡ cond (isClosed t p l) x Damaged
+closed-over t p l x h = rw (lt-leb p t h)
+
+pub closed-by : (t p : ℕ) (l : List ℕ) (z : Bool) (x : Walked) → p ≤ t → z ≡ allZero l → cond z x Damaged ≡ cond (isClosed t p l) x Damaged
+closed-by t p l z x h e = rw (le-leb p t h, e)
+
+-- ---- the walk, from an entry on
+
+-- what is left to tell: after n entries that end at `at` and at the place p
+abbrev pub rest : ℕ → List ℕ → ℕ → ℕ → ℕ → Walked
+rest t b at n p = telling n at p (decodeFrom (suc (length b - n)) t (n + 1) p (drop at b))
+
+pub walk-start : (t : ℕ) (b : List ℕ) → rest t b 0 0 0 ≡ walked t b
+unfolding walked decode
+walk-start t b = let e : length b - 0 ≡ length b = omega arith in rw e
+
+telling-more : (n at p : ℕ) (e : Entry) (o : Option (List Entry)) → telling n at p (Option·map (λ (es : List Entry). e ∷ es) o) ≡ telling (n + 1) (at + lengthOf (e .request)) (p + e .used) o
+unfolding lengthAll usedAll
+telling-more n at p e none = refl
+telling-more n at p e (some es) =
+    let a : n + suc (length es) ≡ n + 1 + length es = omega arith in
+    let b : at + (lengthOf (e .request) + lengthAll es) ≡ at + lengthOf (e .request) + lengthAll es = omega arith in
+    let c : p + (e .used + usedAll es) ≡ p + e .used + usedAll es = omega arith in
+    λ i. Sound (a i) (b i) (c i)
+
+telling-end : (n at p : ℕ) (d : Bool) → telling n at p (cond d (some []) none) ≡ cond d (Sound n at p) Damaged
+unfolding lengthAll usedAll
+telling-end n at p true =
+    let a : n + 0 ≡ n = omega arith in
+    let b : at + 0 ≡ at = omega arith in
+    let c : p + 0 ≡ p = omega arith in
+    λ i. Sound (a i) (b i) (c i)
+telling-end n at p false = refl
+
+module _ (t : ℕ) (b : List ℕ) (at n p : ℕ) where
+  pub rest-end : End ≡ head (n + 1) p (drop at b) → rest t b at n p ≡ cond (isClosed t p (drop at b)) (Sound n at p) Damaged
+  unfolding decodeFrom
+  rest-end h = rw (← h) (telling-end n at p (isClosed t p (drop at b)))
+
+  pub rest-damage : Damage ≡ head (n + 1) p (drop at b) → rest t b at n p ≡ Damaged
+  unfolding decodeFrom
+  rest-damage h = rw (← h)
+
+  -- the walk goes on after an entry
+  module _ (h : Next ≡ head (n + 1) p (drop at b)) where
+    -- it lies within the book
+    pub next-room : (24 ≤ lengthAt b at) × (lengthAt b at ≤ length b - at)
+    next-room =
+        let f = head-next (n + 1) p (drop at b) (sym h) in
+        let k = shape-length (kindAt (drop at b) 0) (fitting-known (n + 1) p (drop at b) f) in
+        (omega (arith, f .sized, k), omega (arith, f .inside, length-drop at b))
+
+    -- and the place that was tested fits 32 bits
+    pub next-place : Bytes b → p < 2 ^ 32
+    next-place by =
+        let f = head-next (n + 1) p (drop at b) (sym h) in
+        let small : placeAt (drop at b) 0 < 2 ^ 32 = spelled-lt 4 (drop 8 (drop at b)) (bytes-drop (drop at b) 8 (bytes-drop b at by)) in
+        omega (arith, f .placed)
+
+    module _ (by : Bytes b) (x u : ℕ) (ex : x ≡ lengthAt b at) (eu : u ≡ usedAt b at) (l : n < length b) where
+      used-is : entryAt (drop at b) 0 .used ≡ u
+      unfolding entryAt
+      used-is = ap (spelled 4) (drop-drop 12 at b) ∙ sym eu
+
+      length-is : lengthOf (entryAt (drop at b) 0 .request) ≡ x
+      length-is = fitting-size (n + 1) p (drop at b) (bytes-drop b at by) (head-next (n + 1) p (drop at b) (sym h)) ∙ sym ex
+
+      one-turn : telling n at p (decodeFrom (suc (length b - n)) t (n + 1) p (drop at b))
+          ≡ telling (n + 1) (at + x) (p + u) (decodeFrom (length b - n) t (n + 1 + 1) (p + u) (drop x (drop at b)))
+      unfolding decodeFrom
+      one-turn = rw (← h, ← ex, telling-more n at p (entryAt (drop at b) 0), used-is, length-is)
+
+      pub rest-next : rest t b at n p ≡ rest t b (at + x) (n + 1) (p + u)
+      rest-next =
+          let fuel : length b - n ≡ suc (length b - (n + 1)) = omega arith in
+          one-turn
+          ∙ ap₂ (λ (k : ℕ) (d : List ℕ). telling (n + 1) (at + x) (p + u) (decodeFrom k t (n + 1 + 1) (p + u) d)) fuel (drop-drop x at b)
+
+-- ---- a turn of the search for an offset
+
+pub offset-next : (b : List ℕ) (at i x : ℕ) → at ≡ offset b i → x ≡ lengthAt b at → at + x ≡ offset b (i + 1)
+unfolding offset
+offset-next b at i x ea ex = rw (add-one i, ← ea, ex)
+
+-- ---- what a walk's answer says
+
+-- the entries of a book of which a walk told n, i and p
+pub record Told (t : ℕ) (b : List ℕ) (n i p : ℕ) : Type 0 where
+  pub entries : List Entry
+  pub decoded : decode t b ≡ some entries
+  pub number : n ≡ length entries
+  pub ends : i ≡ lengthAll entries
+  pub place : p ≡ usedAll entries
+
+told-nothing : (o : Option (List Entry)) → Damaged ≡ telling 0 0 0 o → o ≡ none
+told-nothing none q = refl
+told-nothing (some es) q = let z : _≡_ {A = ℕ} 0 1 = cc in absurd (omega arith)
+
+told-sound : (t : ℕ) (b : List ℕ) (n i p : ℕ) (o : Option (List Entry)) → decode t b ≡ o → Sound n i p ≡ telling 0 0 0 o → Told t b n i p
+told-sound t b n i p none e q = let z : _≡_ {A = ℕ} 0 1 = cc in absurd (omega arith)
+told-sound t b n i p (some es) e q =
+    let a : n ≡ 0 + length es = cc in
+    let c : i ≡ 0 + lengthAll es = cc in
+    let d : p ≡ 0 + usedAll es = cc in
+    record { entries = es; decoded = e; number = omega arith; ends = omega arith; place = omega arith }
+
+pub walked-damaged : (t : ℕ) (b : List ℕ) → Damaged ≡ walked t b → decode t b ≡ none
+unfolding walked
+walked-damaged t b q = told-nothing (decode t b) q
+
+pub walked-sound : (t : ℕ) (b : List ℕ) (n i p : ℕ) → Sound n i p ≡ walked t b → Told t b n i p
+unfolding walked
+walked-sound t b n i p q = told-sound t b n i p (decode t b) refl q

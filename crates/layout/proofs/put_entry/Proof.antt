@@ -1,0 +1,29 @@
+-- `layout::put_entry` meets its contract: the 24 bytes, and the parameters right after them. Assumes nothing.
+use borrow.Author.Needs.{needs}
+use native.Mathlib.Omega.{arith}
+use Rattle.layout.proofs.Table.{shape-length, request-known}
+use Rattle.layout.proofs.Writing.{entry-run}
+use Rattle.layout.proofs.put_entry.Statement.{statement}
+use Rattle.layout.proofs.put_entry.Tie as tie
+
+put-fixed-requires : tie.Need-put-fixed-requires
+put-fixed-requires c κs = omega (arith, shape-length _ (request-known (c .before .before .args .request)))
+
+add-put-parameters : tie.Need-add-put-parameters
+add-put-parameters c = search needs
+
+put-parameters-requires : tie.Need-put-parameters-requires
+put-parameters-requires c κs =
+    let a = c .before .before .before .before .before .before .args in
+    omega (arith, shape-length _ (request-known (a .request)))
+
+same-length : tie.Need-same-length
+same-length c = search needs
+
+returns : tie.Need-returns
+returns c =
+    let w = c .before .before in
+    entry-run _ _ _ _ _ _ _ _ _ (w .before .before .before .before .put-fixed .ensures) (w .put-parameters .ensures)
+
+pub put-entry-spec : {M : Type 1} → statement M
+put-entry-spec = tie.close (tie.spec put-fixed-requires add-put-parameters put-parameters-requires same-length returns)

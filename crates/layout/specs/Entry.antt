@@ -1,0 +1,75 @@
+-- 01, 'The book': an entry and its bytes. Assumes nothing.
+use Prim.Native.Nat.{ℕ, zero, suc, _+_}
+use mathlib.Core.List.{List, [], _∷_, _++_}
+use lib.ListN.{drop}
+use Rattle.bytes_le.specs.LittleEndian.{bytesOf, spelled}
+use Rattle.draws.specs.declared.Request.{Request}
+use Rattle.layout.specs.Kinds.{shapeOf, parametersIn, kindNumber, parametersOf, lengthOf, requestOf}
+
+-- a booking: what was asked for, its serial, the tape's place before the draw (01's `at`), the words used and the count
+pub record Entry : Type 0 where
+  pub request : Request
+  pub serial : ℕ
+  pub place : ℕ
+  pub used : ℕ
+  pub count : ℕ
+
+abbrev pub booking : Request → ℕ → ℕ → ℕ → ℕ → Entry
+booking r s p u c = record { request = r; serial = s; place = p; used = u; count = c }
+
+-- parameters, 8 bytes each
+unfoldable pub parameterBytes : List ℕ → List ℕ
+parameterBytes [] = []
+parameterBytes (x ∷ xs) = bytesOf 8 x ++ parameterBytes xs
+
+-- length u16, kind u16, serial u32, at u32, used u32, count u64
+unfoldable pub fixedBytes : Entry → List ℕ
+fixedBytes e =
+    bytesOf 2 (lengthOf (e .request))
+    ++ (bytesOf 2 (kindNumber (e .request))
+    ++ (bytesOf 4 (e .serial)
+    ++ (bytesOf 4 (e .place)
+    ++ (bytesOf 4 (e .used)
+    ++ bytesOf 8 (e .count)))))
+
+-- then parameters
+unfoldable pub entryBytes : Entry → List ℕ
+entryBytes e = fixedBytes e ++ parameterBytes (parametersOf (e .request))
+
+-- the fields of the entry that begins at i
+abbrev pub lengthAt : List ℕ → ℕ → ℕ
+lengthAt b i = spelled 2 (drop i b)
+
+abbrev pub kindAt : List ℕ → ℕ → ℕ
+kindAt b i = spelled 2 (drop (i + 2) b)
+
+abbrev pub serialAt : List ℕ → ℕ → ℕ
+serialAt b i = spelled 4 (drop (i + 4) b)
+
+abbrev pub placeAt : List ℕ → ℕ → ℕ
+placeAt b i = spelled 4 (drop (i + 8) b)
+
+abbrev pub usedAt : List ℕ → ℕ → ℕ
+usedAt b i = spelled 4 (drop (i + 12) b)
+
+abbrev pub countAt : List ℕ → ℕ → ℕ
+countAt b i = spelled 8 (drop (i + 16) b)
+
+-- k parameters from the front
+unfoldable pub parametersFrom : ℕ → List ℕ → List ℕ
+parametersFrom zero l = []
+parametersFrom (suc k) l = spelled 8 l ∷ parametersFrom k (drop 8 l)
+
+abbrev pub parametersAt : List ℕ → ℕ → List ℕ
+parametersAt b i = parametersFrom (parametersIn (shapeOf (kindAt b i))) (drop (i + 24) b)
+
+-- the entry that begins at i, where its kind is one of the table
+unfoldable pub entryAt : List ℕ → ℕ → Entry
+entryAt b i =
+    record {
+      request = requestOf (kindAt b i) (parametersAt b i);
+      serial = serialAt b i;
+      place = placeAt b i;
+      used = usedAt b i;
+      count = countAt b i;
+    }

@@ -1,0 +1,6 @@
+pub mod Kinds
+pub mod Entry
+pub mod Book
+pub mod Sound
+pub mod Walk
+pub mod Places
