@@ -1,0 +1,142 @@
+-- A fresh delivery by the draw that it makes: of a draw's answer and the room, what the list of conditions gives. Assumes nothing.
+use mathlib.Core.Path.{_≡_, refl, sym, ap, _∙_}
+use mathlib.Core.Bool.{Bool, true, false, cond, _&&_, true≢false}
+use mathlib.Core.List.{List, [], _∷_, _++_}
+use mathlib.Core.Logic.{_⊎_, inl, inr}
+use Prim.Native.Nat.{ℕ, _+_, _-_, _≤_}
+use native.Mathlib.Omega.{arith}
+use lib.Dec.{eqb}
+use lib.ListN.{length, take, drop, length-drop}
+use lib.Seq.{sets, take-all}
+use borrow.Author.Tests.{eq-eqb, ne-eqb}
+use Rattle.words.specs.Words.{mostWords, tooLong}
+use Rattle.words.specs.Outcome.{Outcome, drawn, refused}
+use Rattle.words.specs.Refusals.{Condition, _on_, given, First, NoneHolds}
+use Rattle.words.specs.Draw.{endsBy}
+use Rattle.words.proofs.Tape.{limit-within}
+use Rattle.words.proofs.Exactly.{first-given, first-before, given-append, none-given}
+use Rattle.words.proofs.Drawing.{accepted-passed, accepted-reading}
+use Rattle.draws.specs.declared.Request.{Request}
+use Rattle.draws.specs.Request.{parameterRefusals, readingOf, drawOf}
+use Rattle.draws.proofs.Laws.{request-exactly, parameters-below}
+use Rattle.layout.specs.Entry.{booking, entryBytes}
+use Rattle.book.specs.Calls.{call, stands}
+use Rattle.book.specs.Deliver.{Booking, fresh, isFull, freshRefusals, freshly, delivering, freshDelivery}
+
+-- what holds first in two lists joined holds first in one of them
+first-split : (cs ds : List Condition) (n : ℕ) → First n (cs ++ ds) → First n cs ⊎ (NoneHolds cs × First n ds)
+first-split [] ds n f = inr (tt, f)
+first-split (c ∷ cs) ds n (inl h) = inl (inl h)
+first-split (c ∷ cs) ds n (inr h) = go (first-split cs ds n (h .1))
+  where
+    go : First n cs ⊎ (NoneHolds cs × First n ds) → First n (c ∷ cs) ⊎ (NoneHolds (c ∷ cs) × First n ds)
+    go (inl f) = inl (inr (h .0, f))
+    go (inr x) = inr ((h .0, x .0), x .1)
+
+-- the words vs from the book's place on, and a book that ends at `end`
+module _ (vs b : List ℕ) (end : ℕ) (r : Request) (short : length vs ≤ mostWords) where
+  abbrev o : Outcome ℕ
+  o = readingOf r vs
+
+  abbrev lasts : List Condition
+  lasts = 15 on isFull b end r ∷ 10 on endsBy 10 (readingOf r vs) ∷ []
+
+  -- where no parameter is refused, 15 and 10 decide
+  passed : NoneHolds (parameterRefusals r) → given (freshRefusals vs b end r) (freshly o) ≡ given lasts (freshly o)
+  unfolding freshRefusals
+  passed h = given-append (parameterRefusals r) lasts (freshly o) ∙ none-given (parameterRefusals r) (given lasts (freshly o)) h
+
+  module _ (c u : ℕ) (e : drawOf r vs ≡ drawn c u) where
+    none-wrong : NoneHolds (parameterRefusals r)
+    unfolding drawOf
+    none-wrong = accepted-passed vs (parameterRefusals r) o c u e
+
+    it-drew : readingOf r vs ≡ drawn c u
+    unfolding drawOf
+    it-drew = accepted-reading vs (parameterRefusals r) o c u e
+
+    pub drew-full : isFull b end r ≡ true → given (freshRefusals vs b end r) (freshly o) ≡ refused 15
+    drew-full f = passed none-wrong ∙ rw f
+
+    pub drew-room : isFull b end r ≡ false → given (freshRefusals vs b end r) (freshly o) ≡ drawn (fresh c) u
+    drew-room f = passed none-wrong ∙ rw (f, it-drew)
+
+  -- a refused draw's refusal, with 15 before 10
+  abbrev ordered : ℕ → ℕ
+  ordered n = cond (isFull b end r && eqb n 10) 15 n
+
+  by-parameter : (n : ℕ) → First n (parameterRefusals r) → given (freshRefusals vs b end r) (freshly o) ≡ refused (ordered n)
+  unfolding freshRefusals
+  by-parameter n f =
+      let other : eqb n 10 ≡ false = ne-eqb n 10 (λ z. omega (arith, parameters-below r n f)) in
+      first-given (parameterRefusals r ++ lasts) (freshly o) n (first-before (parameterRefusals r) lasts n f)
+      ∙ ap refused (sym (rw other (no (isFull b end r))))
+    where
+      no : (f : Bool) → cond (f && false) 15 n ≡ n
+      no true = refl
+      no false = refl
+
+  by-ten : (n : ℕ) → NoneHolds (parameterRefusals r) → endsBy 10 (readingOf r vs) ≡ true → 10 ≡ n
+      → given (freshRefusals vs b end r) (freshly o) ≡ refused (ordered n)
+  by-ten n h t e =
+      passed h
+      ∙ rw (t, ← e) (either (isFull b end r))
+    where
+      either : (f : Bool) → _≡_ {A = Outcome Booking} (cond f (refused 15) (refused 10)) (refused (cond (f && true) 15 10))
+      either true = refl
+      either false = refl
+
+  pub drew-refused : (n : ℕ) → drawOf r vs ≡ refused n → given (freshRefusals vs b end r) (freshly o) ≡ refused (ordered n)
+  drew-refused n e = go (request-exactly r vs n .0 e)
+    where
+      last : First n (parameterRefusals r) ⊎ (NoneHolds (parameterRefusals r) × First n (10 on endsBy 10 (readingOf r vs) ∷ []))
+          → given (freshRefusals vs b end r) (freshly o) ≡ refused (ordered n)
+      last (inl f) = by-parameter n f
+      last (inr x) = elim (x .1) [
+        | inl h ↦ by-ten n (x .0) (h .0) (h .1)
+        | inr h ↦ absurd (h .1)
+      ]
+
+      go : First n (1 on tooLong vs ∷ parameterRefusals r ++ (10 on endsBy 10 (readingOf r vs) ∷ []))
+          → given (freshRefusals vs b end r) (freshly o) ≡ refused (ordered n)
+      go (inl h) = absurd (true≢false (sym (h .0) ∙ limit-within vs short))
+      go (inr h) = last (first-split (parameterRefusals r) (10 on endsBy 10 (readingOf r vs) ∷ []) n (h .1))
+
+-- ---- the tape from a place on, as it is lent
+
+pub lent-from : (ws : List ℕ) (p : ℕ) → take (length ws - p) (drop p ws) ≡ drop p ws
+lent-from ws p = take-all (length ws - p) (drop p ws) (omega (arith, length-drop p ws))
+
+-- ---- the refusal that the code gives
+
+pub ordered-full : (full : Bool) (n m : ℕ) → full ≡ true → m ≡ n → m ≡ 10 → 15 ≡ cond (full && eqb n 10) 15 n
+ordered-full full n m f e t = rw (f, eq-eqb n 10 (sym e ∙ t))
+
+pub ordered-other : (full : Bool) (n m : ℕ) → full ≡ true → m ≡ n → (m ≡ 10 → ⊥) → n ≡ cond (full && eqb n 10) 15 n
+ordered-other full n m f e t = rw (f, ne-eqb n 10 (λ z. t (e ∙ z)))
+
+-- ---- a fresh delivery, way by way
+
+module _ (ws b : List ℕ) (n end p : ℕ) (r : Request) (short : length ws ≤ mostWords) where
+  left-short : length (drop p ws) ≤ mostWords
+  left-short = omega (arith, length-drop p ws)
+
+  pub fresh-refused : (k m : ℕ) → refused k ≡ drawOf r (drop p ws) → m ≡ cond (isFull b end r && eqb k 10) 15 k
+      → call (refused m) b ≡ freshDelivery ws b (stands n end p) r
+  unfolding freshDelivery
+  fresh-refused k m e em =
+      sym
+      (ap (λ (x : Outcome Booking). delivering x b (stands n end p) r) (drew-refused (drop p ws) b end r left-short k (sym e))
+      ∙ ap (λ (x : ℕ). call (refused x) b) (sym em))
+
+  pub fresh-full : (c u : ℕ) → drawn c u ≡ drawOf r (drop p ws) → isFull b end r ≡ true → call (refused 15) b ≡ freshDelivery ws b (stands n end p) r
+  unfolding freshDelivery
+  fresh-full c u e f =
+      sym (ap (λ (x : Outcome Booking). delivering x b (stands n end p) r) (drew-full (drop p ws) b end r left-short c u (sym e) f))
+
+  pub fresh-booked : (c u : ℕ) (b' : List ℕ) → drawn c u ≡ drawOf r (drop p ws) → isFull b end r ≡ false
+      → b' ≡ sets b end (entryBytes (booking r (n + 1) p u c)) → call (drawn (fresh c) u) b' ≡ freshDelivery ws b (stands n end p) r
+  unfolding freshDelivery
+  fresh-booked c u b' e f eb =
+      ap (call (drawn (fresh c) u)) eb
+      ∙ sym (ap (λ (x : Outcome Booking). delivering x b (stands n end p) r) (drew-room (drop p ws) b end r left-short c u (sym e) f))

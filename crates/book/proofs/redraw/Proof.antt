@@ -1,0 +1,44 @@
+-- `redraw` meets its contract: stopped, or every entry of a sound book drawn again. Assumes nothing.
+use borrow.Author.Needs.{needs}
+use mathlib.Core.Path.{sym, ap, _∙_}
+use Rattle.book.specs.Calls.{Standing, openedAs}
+use Rattle.book.proofs.Opening.{refused-opening, sound-opening}
+use Rattle.book.proofs.Redrawing.{redraw-stopped}
+use Rattle.book.proofs.redraw.Statement.{statement}
+use Rattle.book.proofs.redraw.Tie as tie
+
+open-book-requires : tie.Need-open-book-requires
+open-book-requires c κs = search needs
+
+enum-known-refusal : tie.Need-enum-known-refusal
+enum-known-refusal c = search needs
+
+enum-known-entries : tie.Need-enum-known-entries
+enum-known-entries c = search needs
+
+redraw-all-requires : tie.Need-redraw-all-requires
+redraw-all-requires c κs =
+    let at-entries = c .before in
+    let at-open = at-entries .before .before in
+    let o = sound-opening _ _ _ _ (sym (ap openedAs (at-entries .entries .given .1)) ∙ at-open .open-book .ensures) in
+    (o .0, sym (ap (λ (x : Standing). x .entries) (o .1)))
+
+returns : tie.Need-returns
+returns c =
+    let at-refusal = c .before in
+    let at-open = at-refusal .before .before in
+    redraw-stopped _ _ _ (refused-opening _ _ _ (sym (ap openedAs (at-refusal .refusal .given .1)) ∙ at-open .open-book .ensures))
+
+returns-2 : tie.Need-returns-2
+returns-2 c = search needs
+
+pub redraw-spec : {M : Type 1} → statement M
+redraw-spec =
+    tie.close
+    (tie.spec
+    open-book-requires
+    enum-known-refusal
+    enum-known-entries
+    redraw-all-requires
+    returns
+    returns-2)
