@@ -1,0 +1,133 @@
+-- Demand 2 for deliveries, strikes and redraws, proved. Assumes nothing.
+use mathlib.Core.Path.{_≡_, refl, sym, ap, _∙_}
+use mathlib.Core.Bool.{true, false, cond}
+use mathlib.Core.List.{List, [], _∷_, _++_}
+use mathlib.Core.Logic.{inl, _↔_}
+use mathlib.Core.Option.{Option, none, some}
+use Prim.Native.Nat.{ℕ, _-_}
+use native.Mathlib.Omega.{arith}
+use lib.Dec.{eqb}
+use lib.ListN.{length, drop}
+use borrow.Author.Tests.{eq-eqb, eqb-true}
+use Rattle.words.specs.Outcome.{Outcome, drawn, refused}
+use Rattle.words.specs.Refusals.{Condition, _on_, given, First, NoneHolds}
+use Rattle.words.specs.Draw.{endsBy}
+use Rattle.words.proofs.Exactly.{SomeFirst, exactly, drawn-exactly, some-after, none-given}
+use Rattle.draws.specs.declared.Request.{Request}
+use Rattle.draws.specs.Request.{parameterRefusals, readingOf}
+use Rattle.draws.proofs.Laws.{request-ends}
+use Rattle.draws.proofs.Demand2 as draws
+use Rattle.layout.specs.Entry.{Entry}
+use Rattle.layout.proofs.Decoding.{by-test}
+use Rattle.book.specs.declared.Delivered.{Delivered}
+use Rattle.book.specs.declared.Struck.{Struck}
+use Rattle.book.specs.declared.Redrawn.{Redrawn}
+use Rattle.book.specs.Calls.{Call, booked, limits, standing}
+use Rattle.book.specs.Deliver.{Booking, isNext, isAhead, isReused, isFull, whenNext, freshRefusals, deliverRefusals, freshly, delivery, deliverTo, deliver, delivered}
+use Rattle.book.specs.Strike.{strikeIn, strike, struck}
+use Rattle.book.specs.Redraw.{lowest, Redrawing, redrawOf, redraw, redrawn}
+use Rattle.book.proofs.Delivering.{copy-unrefused, next-asked}
+use Rattle.demands.specs.Allowed.{DeliverAllows, StrikeAllows, RedrawAllows}
+use Rattle.demands.specs.Demand2.{deliverConditions, strikeConditions, redrawConditions, DeliverDemanded, StrikeDemanded, RedrawDemanded, Demand2}
+use Rattle.demands.proofs.OneCall.{one-delivered, one-struck, one-redrawn}
+use Rattle.demands.proofs.Demand1.{delivery-writes, strike-writes}
+
+-- ---- deliveries
+
+-- a serial that is not next is refused by 1, 11, 12, 13 and 14 alone
+pub copy-refusals : {A : Type 0} (ws b : List ℕ) (es : List Entry) (s : ℕ) (r : Request) (o : Outcome A) → isNext (length es) s ≡ false
+    → given (deliverRefusals ws b es s r) o ≡ given (limits ws b ++ (13 on isAhead (length es) s ∷ 14 on isReused es s r ∷ [])) o
+unfolding deliverRefusals
+copy-refusals ws b es s r o e =
+    let fs : List Condition = freshRefusals (drop (standing es .place) ws) b (standing es .end) r in
+    rw (e, none-given (whenNext false fs) o (copy-unrefused fs))
+
+freshly-refused : (o : Outcome ℕ) (n : ℕ) → freshly o ≡ refused n → o ≡ refused n
+freshly-refused (drawn c u) n e = cc
+freshly-refused (refused m) n e = cc
+
+-- a delivery that comes to a refusal by itself has called for a word past the tape's end, and 10 is on its list
+pub fresh-covered : (vs b : List ℕ) (end : ℕ) (r : Request) (n : ℕ) → readingOf r vs ≡ refused n → SomeFirst (freshRefusals vs b end r)
+unfolding freshRefusals
+fresh-covered vs b end r n e =
+    let ends : endsBy 10 (readingOf r vs) ≡ true = ap (endsBy 10) e ∙ eq-eqb n 10 (request-ends r vs n e) in
+    let full : Condition = 15 on isFull b end r in
+    let short : List Condition = 10 on endsBy 10 (readingOf r vs) ∷ [] in
+    some-after (parameterRefusals r) (full ∷ short) (some-after (full ∷ []) short (10, inl (ends, refl)))
+
+delivery-covered : (ws b : List ℕ) (es : List Entry) (s : ℕ) (r : Request) (n : ℕ) → delivery ws es s r ≡ refused n
+    → SomeFirst (deliverRefusals ws b es s r)
+unfolding deliverRefusals delivery
+delivery-covered ws b es s r n =
+    let vs : List ℕ = drop (standing es .place) ws in
+    let fs : List Condition = freshRefusals vs b (standing es .end) r in
+    let firsts : List Condition = limits ws b ++ (13 on isAhead (length es) s ∷ 14 on isReused es s r ∷ []) in
+    by-test (λ (o : Outcome Booking). o ≡ refused n → SomeFirst (firsts ++ whenNext (isNext (length es) s) fs)) (isNext (length es) s)
+    (λ t e. rw (t, next-asked fs) (some-after firsts fs (fresh-covered vs b (standing es .end) r n (freshly-refused (readingOf r vs) n e))))
+    (λ t e. let z : _≡_ {A = ℕ} 0 1 = cc in absurd (omega arith))
+
+-- what holds exactly of the rule's outcome holds exactly of an equal answer's reading
+along : {A B : Type 0} {o p x : Outcome A} → p ≡ o → (o ≡ x) ↔ B → (p ≡ x) ↔ B
+along e i = (λ h. i .0 (sym e ∙ h), λ b. e ∙ i .1 b)
+
+delivery-demanded : (ws b : List ℕ) (s : ℕ) (r : Request) (a : Delivered) (c : List ℕ) → DeliverAllows ws b s r a c → DeliverDemanded ws b s r a c
+unfolding deliver deliverTo
+delivery-demanded ws b s r a c e =
+    let o : delivered a ≡ given (deliverConditions ws b s r) (delivery ws (booked ws b) s r) = ap (λ (x : Call Booking). x .outcome) e in
+    record {
+      tells = λ x u. along o (drawn-exactly (deliverConditions ws b s r) (delivery ws (booked ws b) s r) x u);
+      refuses = λ n. along o (exactly (deliverConditions ws b s r) (delivery ws (booked ws b) s r) (delivery-covered ws b (booked ws b) s r) n);
+      writes = delivery-writes ws b s r a c e;
+      one = λ a' c' e'.
+          let same = e' ∙ sym e in
+          (one-delivered a' a (ap (λ (x : Call Booking). x .outcome) same), ap (λ (x : Call Booking). x .book) same);
+    }
+
+-- ---- strikes and redraws
+
+-- a number that is told with 0 words used
+told-exactly : (cs : List Condition) (k m u : ℕ) → (given cs (drawn k 0) ≡ drawn m u) ↔ (NoneHolds cs × (m ≡ k) × (u ≡ 0))
+told-exactly cs k m u = (
+  λ e. let x = drawn-exactly cs (drawn k 0) m u .0 e in (x .0, (cc), (cc)),
+  λ h. drawn-exactly cs (drawn k 0) m u .1 (h .0, cc),
+)
+
+told-refusals : (cs : List Condition) (k n : ℕ) → (given cs (drawn k 0) ≡ refused n) ↔ First n cs
+told-refusals cs k = exactly cs (drawn k 0) (λ n e. let z : _≡_ {A = ℕ} 0 1 = cc in absurd (omega arith))
+
+strike-demanded : (ws b : List ℕ) (j : ℕ) (a : Struck) (c : List ℕ) → StrikeAllows ws b j a c → StrikeDemanded ws b j a c
+unfolding strike strikeIn
+strike-demanded ws b j a c e =
+    let o : struck a ≡ given (strikeConditions ws b j) (drawn (length (booked ws b) - j) 0) = ap (λ (x : Call ℕ). x .outcome) e in
+    record {
+      strikes = λ m u. along o (told-exactly (strikeConditions ws b j) (length (booked ws b) - j) m u);
+      refuses = λ n. along o (told-refusals (strikeConditions ws b j) (length (booked ws b) - j) n);
+      writes = strike-writes ws b j a c e;
+      one = λ a' c' e'.
+          let same = e' ∙ sym e in
+          (one-struck a' a (ap (λ (x : Call ℕ). x .outcome) same), ap (λ (x : Call ℕ). x .book) same);
+    }
+
+-- a serial is named exactly by a 17
+named-exactly : (o : Outcome ℕ) (x : Option ℕ) (s : ℕ) → (cond (endsBy 17 o) x none ≡ some s) ↔ ((o ≡ refused 17) × (x ≡ some s))
+named-exactly (drawn c u) x s = (λ e. (cc, cc), λ h. cc)
+named-exactly (refused n) x s = (
+  by-test (λ (y : Option ℕ). y ≡ some s → (_≡_ {A = Outcome ℕ} (refused n) (refused 17)) × (x ≡ some s)) (eqb n 17)
+      (λ t e. (ap refused (eqb-true n 17 t), e))
+      (λ t e. (cc, cc)),
+  λ h. let t : n ≡ 17 = cc in rw (eq-eqb n 17 t) (h .1),
+)
+
+redraw-demanded : (ws b : List ℕ) (a : Redrawn) → RedrawAllows ws b a → RedrawDemanded ws b a
+unfolding redraw redrawOf
+redraw-demanded ws b a e =
+    let o : redrawn a .outcome ≡ given (redrawConditions ws b) (drawn (length (booked ws b)) 0) = ap (λ (x : Redrawing). x .outcome) e in
+    record {
+      agrees = λ m u. along o (told-exactly (redrawConditions ws b) (length (booked ws b)) m u);
+      refuses = λ n. along o (told-refusals (redrawConditions ws b) (length (booked ws b)) n);
+      names = λ s. rw e (named-exactly (given (redrawConditions ws b) (drawn (length (booked ws b)) 0)) (lowest ws (booked ws b)) s);
+      one = λ a' e'. one-redrawn a' a (e' ∙ sym e);
+    }
+
+pub demand-2 : Demand2
+demand-2 = record { draws = draws.demand-2; deliveries = delivery-demanded; strikes = strike-demanded; redraws = redraw-demanded }

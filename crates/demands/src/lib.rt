@@ -1,0 +1,1 @@
+// No code: the three demands as statements (specs/), and their proofs.
