@@ -7,7 +7,7 @@ use native.Mathlib.Numerals.{add-one}
 use native.Mathlib.Omega.{arith}
 use lib.ListN.{getD, drop, take, length, replicate, set}
 use lib.Seq.{getD-drop, drop-drop, sets}
-use Rattle.bytes_le.specs.LittleEndian.{bytesOf, spelled}
+use Rattle.bytes_le.specs.LittleEndian.{bytesOf, spelled, wordsFrom}
 
 -- each value is a byte's
 abbrev pub Bytes : List ℕ → Type 0
@@ -95,3 +95,18 @@ write-turn l k at i v h =
 pub write-done : (l d : List ℕ) (k at i v : ℕ) → i ≤ k → k ≤ i → sets l (at + i) (bytesOf (k - i) v) ≡ d → l ≡ d
 unfolding bytesOf
 write-done l d k at i v h h' e = let n : k - i ≡ 0 = omega arith in rw n at e
+
+-- ---- a turn of the loop that reads words
+
+pub words-turn : (t l : List ℕ) (k at i w : ℕ) → i < k → w ≡ spelled 8 (drop (8 * i) l)
+    → sets (set t (at + i) w) (at + (i + 1)) (wordsFrom (k - (i + 1)) (drop (8 * (i + 1)) l)) ≡ sets t (at + i) (wordsFrom (k - i) (drop (8 * i) l))
+unfolding wordsFrom
+words-turn t l k at i w h e =
+    let n : k - i ≡ suc (k - (i + 1)) = omega arith in
+    let a : at + (i + 1) ≡ suc (at + i) = omega arith in
+    let d : 8 * (i + 1) ≡ 8 * i + 8 = omega arith in
+    rw (n, a, d, e, drop-drop 8 (8 * i) l)
+
+pub words-done : (t d l : List ℕ) (k at i : ℕ) → i ≤ k → k ≤ i → sets t (at + i) (wordsFrom (k - i) (drop (8 * i) l)) ≡ d → t ≡ d
+unfolding wordsFrom
+words-done t d l k at i h h' e = let n : k - i ≡ 0 = omega arith in rw n at e

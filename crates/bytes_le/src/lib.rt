@@ -1,9 +1,9 @@
-// Numbers in lent bytes, the lowest byte first, and zeros: one read and one write for every width.
+// Numbers in lent bytes, the lowest byte first, and zeros: one read and one write for every width; the words of a tape.
 ghost use mathlib.Core.Path.{_≡_};
-ghost use Prim.Native.Nat.{_+_, _≤_};
+ghost use Prim.Native.Nat.{_+_, _*_, _≤_};
 ghost use lib.ListN.{length, drop};
 ghost use lib.Seq.{sets};
-ghost use Rattle.bytes_le.specs.LittleEndian.{bytesOf, spelled};
+ghost use Rattle.bytes_le.specs.LittleEndian.{bytesOf, spelled, wordsFrom};
 ghost use Rattle.bytes_le.specs.Zeros.{allZero, wiped};
 
 fn widen(byte: u8) -> u64
@@ -63,6 +63,18 @@ pub fn wipe(bytes: &mut [u8], from: usize, to: usize)
     let mut i = from;
     while i < to {
         bytes[i] = 0;
+        i += 1;
+    }
+}
+
+// Reads k words of 8 bytes each into a lent tape, from `at` on.
+pub fn read_words(bytes: &[u8], k: usize, tape: &mut [u64], at: usize)
+    requires { ⌜ (8 * k ≤ length (now bytes)) × (at + k ≤ length (now tape)) ⌝ }
+    ensures { λ _. ⌜ now (tape .exit) ≡ sets (now (tape .entry)) at (wordsFrom k (now (bytes .entry))) ⌝ }
+{
+    let mut i: usize = 0;
+    while i < k {
+        tape[at + i] = read_le(bytes, 8 * i, 8);
         i += 1;
     }
 }

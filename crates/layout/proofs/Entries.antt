@@ -5,10 +5,10 @@ use Prim.Native.Nat.{ℕ, zero, suc, _+_, _*_, _^_, _<_, _≤_}
 use native.Mathlib.Omega.{arith}
 use lib.ListN.{length, take, drop, length-append, length-drop}
 use lib.Seq.{drop-at, take-add, drop-drop}
-use Rattle.bytes_le.specs.LittleEndian.{bytesOf, spelled}
+use Rattle.bytes_le.specs.LittleEndian.{bytesOf, spelled, wordsFrom}
 use Rattle.bytes_le.proofs.Numbers.{Bytes, bytes-drop, length-bytes, spelled-bytes, spelled-lt, bytes-spelled}
 use Rattle.layout.specs.Kinds.{shapeOf, lengthIn, parametersIn, kindNumber, parametersOf, lengthOf, requestOf, AllFit, RequestFits}
-use Rattle.layout.specs.Entry.{Entry, parameterBytes, fixedBytes, entryBytes, lengthAt, kindAt, serialAt, placeAt, usedAt, countAt, parametersFrom, parametersAt, entryAt}
+use Rattle.layout.specs.Entry.{Entry, parameterBytes, fixedBytes, entryBytes, lengthAt, kindAt, serialAt, placeAt, usedAt, countAt, parametersAt, entryAt}
 use Rattle.layout.proofs.Table.{shape-length, length-small, request-shape, request-length, request-again, kind-fits, kind-again}
 
 -- an entry's numbers fit their fields
@@ -21,14 +21,14 @@ pub record Fits (e : Entry) : Type 0 where
 
 -- ---- what was written is read
 
-read-parameters : (ps : List ℕ) (r : List ℕ) → AllFit ps → parametersFrom (length ps) (parameterBytes ps ++ r) ≡ ps
-unfolding parametersFrom parameterBytes
+read-parameters : (ps : List ℕ) (r : List ℕ) → AllFit ps → wordsFrom (length ps) (parameterBytes ps ++ r) ≡ ps
+unfolding wordsFrom parameterBytes
 read-parameters [] r h = refl
 read-parameters (x ∷ xs) r h =
     let whole = append-assoc (bytesOf 8 x) (parameterBytes xs) r in
     ap₂ (λ (a : ℕ) (b : List ℕ). a ∷ b) (ap (spelled 8) whole ∙ spelled-bytes 8 x (parameterBytes xs ++ r) (h .0))
-    (ap (λ (l : List ℕ). parametersFrom (length xs) (drop 8 l)) whole
-    ∙ ap (parametersFrom (length xs)) (drop-at (bytesOf 8 x) (parameterBytes xs ++ r) 8 (length-bytes 8 x))
+    (ap (λ (l : List ℕ). wordsFrom (length xs) (drop 8 l)) whole
+    ∙ ap (wordsFrom (length xs)) (drop-at (bytesOf 8 x) (parameterBytes xs ++ r) 8 (length-bytes 8 x))
     ∙ read-parameters xs r (h .1))
 
 length-parameters : (ps : List ℕ) → length (parameterBytes ps) ≡ 8 * length ps
@@ -86,15 +86,15 @@ module _ (e : Entry) (r : List ℕ) (fits : Fits e) where
   unfolding fields bytesOf
   read-count = spelled-bytes 8 (e .count) _ (fits .count-fits)
 
-  read-rest : parametersFrom (parametersIn (shapeOf (kindNumber (e .request)))) (drop 24 (fields e r)) ≡ parametersOf (e .request)
+  read-rest : wordsFrom (parametersIn (shapeOf (kindNumber (e .request)))) (drop 24 (fields e r)) ≡ parametersOf (e .request)
   unfolding fields bytesOf
   read-rest =
-      ap (λ (k : ℕ). parametersFrom k (parameterBytes (parametersOf (e .request)) ++ r)) (sym (request-shape (e .request)))
+      ap (λ (k : ℕ). wordsFrom k (parameterBytes (parametersOf (e .request)) ++ r)) (sym (request-shape (e .request)))
       ∙ read-parameters (parametersOf (e .request)) r (fits .request-fits)
 
   read-request : requestOf (kindAt (fields e r) 0) (parametersAt (fields e r) 0) ≡ e .request
   read-request =
-      ap (λ (k : ℕ). requestOf k (parametersFrom (parametersIn (shapeOf k)) (drop 24 (fields e r)))) read-kind
+      ap (λ (k : ℕ). requestOf k (wordsFrom (parametersIn (shapeOf k)) (drop 24 (fields e r)))) read-kind
       ∙ ap (requestOf (kindNumber (e .request))) read-rest
       ∙ request-again (e .request)
 
@@ -124,8 +124,8 @@ module _ (e : Entry) (r : List ℕ) (fits : Fits e) where
 
 -- ---- what was read is written
 
-written-parameters : (k : ℕ) (l : List ℕ) → Bytes l → 8 * k ≤ length l → parameterBytes (parametersFrom k l) ≡ take (8 * k) l
-unfolding parametersFrom parameterBytes
+written-parameters : (k : ℕ) (l : List ℕ) → Bytes l → 8 * k ≤ length l → parameterBytes (wordsFrom k l) ≡ take (8 * k) l
+unfolding wordsFrom parameterBytes
 written-parameters zero l h f = refl
 written-parameters (suc k) l h f =
     let e : 8 * suc k ≡ 8 + 8 * k = omega arith in
@@ -133,15 +133,15 @@ written-parameters (suc k) l h f =
     (written-parameters k (drop 8 l) (bytes-drop l 8 h) (rw length-drop (omega arith)))
     ∙ sym (ap (λ (m : ℕ). take m l) e ∙ take-add 8 (8 * k) l)
 
-parameters-fit : (k : ℕ) (l : List ℕ) → Bytes l → AllFit (parametersFrom k l)
-unfolding parametersFrom
+parameters-fit : (k : ℕ) (l : List ℕ) → Bytes l → AllFit (wordsFrom k l)
+unfolding wordsFrom
 parameters-fit zero l h = tt
 parameters-fit (suc k) l h = (spelled-lt 8 l h, parameters-fit k (drop 8 l) (bytes-drop l 8 h))
 
-length-parametersFrom : (k : ℕ) (l : List ℕ) → length (parametersFrom k l) ≡ k
-unfolding parametersFrom
-length-parametersFrom zero l = refl
-length-parametersFrom (suc k) l = ap suc (length-parametersFrom k (drop 8 l))
+length-words : (k : ℕ) (l : List ℕ) → length (wordsFrom k l) ≡ k
+unfolding wordsFrom
+length-words zero l = refl
+length-words (suc k) l = ap suc (length-words k (drop 8 l))
 
 -- a field read and written again is the bytes that were there
 field : (k i : ℕ) (l : List ℕ) → Bytes l → i + k ≤ length l → bytesOf k (spelled k (drop i l)) ≡ take k (drop i l)
@@ -154,7 +154,7 @@ module _ (l : List ℕ) (by : Bytes l) (known : 0 < lengthIn (shapeOf (kindAt l 
 
   again : (kindNumber (entryAt l 0 .request) ≡ kindAt l 0) × (parametersOf (entryAt l 0 .request) ≡ parametersAt l 0)
   unfolding entryAt
-  again = kind-again kind (parametersAt l 0) known (length-parametersFrom (parametersIn (shapeOf kind)) (drop 24 l))
+  again = kind-again kind (parametersAt l 0) known (length-words (parametersIn (shapeOf kind)) (drop 24 l))
 
   -- its numbers fit their fields
   pub entry-fits : Fits (entryAt l 0)

@@ -2,7 +2,7 @@
 use Prim.Native.Nat.{ℕ, zero, suc, _+_}
 use mathlib.Core.List.{List, [], _∷_, _++_}
 use lib.ListN.{drop}
-use Rattle.bytes_le.specs.LittleEndian.{bytesOf, spelled}
+use Rattle.bytes_le.specs.LittleEndian.{bytesOf, spelled, wordsFrom}
 use Rattle.draws.specs.declared.Request.{Request}
 use Rattle.layout.specs.Kinds.{shapeOf, parametersIn, kindNumber, parametersOf, lengthOf, requestOf}
 
@@ -55,13 +55,9 @@ usedAt b i = spelled 4 (drop (i + 12) b)
 abbrev pub countAt : List ℕ → ℕ → ℕ
 countAt b i = spelled 8 (drop (i + 16) b)
 
--- k parameters from the front
-unfoldable pub parametersFrom : ℕ → List ℕ → List ℕ
-parametersFrom zero l = []
-parametersFrom (suc k) l = spelled 8 l ∷ parametersFrom k (drop 8 l)
-
+-- then its parameters, as many as its kind has
 abbrev pub parametersAt : List ℕ → ℕ → List ℕ
-parametersAt b i = parametersFrom (parametersIn (shapeOf (kindAt b i))) (drop (i + 24) b)
+parametersAt b i = wordsFrom (parametersIn (shapeOf (kindAt b i))) (drop (i + 24) b)
 
 -- the entry that begins at i, where its kind is one of the table
 unfoldable pub entryAt : List ℕ → ℕ → Entry

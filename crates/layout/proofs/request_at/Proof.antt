@@ -6,10 +6,10 @@ use Prim.Native.Nat.{ℕ, _+_, _≤_}
 use native.Mathlib.Omega.{arith}
 use lib.ListN.{length, drop}
 use lib.Seq.{drop-drop}
-use Rattle.bytes_le.specs.LittleEndian.{spelled}
+use Rattle.bytes_le.specs.LittleEndian.{spelled, wordsFrom}
 use Rattle.draws.specs.declared.Request.the-variants.{Hypergeometric, Poisson, Geometric}
 use Rattle.layout.specs.Kinds.{shapeOf, lengthIn, parametersIn, requestOf}
-use Rattle.layout.specs.Entry.{kindAt, parametersFrom, entryAt}
+use Rattle.layout.specs.Entry.{kindAt, entryAt}
 use Rattle.layout.specs.Places.{HasEntry}
 use Rattle.layout.proofs.Table.{shape-length, last-kind}
 use Rattle.layout.proofs.request_at.Statement.{statement}
@@ -21,7 +21,7 @@ module _ (b : List ℕ) (i k : ℕ) (e : kindAt b i ≡ k) where
   room-of h = rw e at (h .room)
 
   -- its request is the one of its kind and the parameters that stand there
-  request-read : requestOf k (parametersFrom (parametersIn (shapeOf k)) (drop (i + 24) b)) ≡ entryAt b i .request
+  request-read : requestOf k (wordsFrom (parametersIn (shapeOf k)) (drop (i + 24) b)) ≡ entryAt b i .request
   unfolding entryAt
   request-read = rw e
 
@@ -29,7 +29,7 @@ module _ (b : List ℕ) (i k : ℕ) (e : kindAt b i ≡ k) where
 three-read : (b : List ℕ) (i x y z : ℕ) → kindAt b i ≡ 1
     → x ≡ spelled 8 (drop (i + 24) b) → y ≡ spelled 8 (drop (i + 32) b) → z ≡ spelled 8 (drop (i + 40) b)
     → Hypergeometric x y z ≡ entryAt b i .request
-unfolding shapeOf requestOf parametersFrom
+unfolding shapeOf requestOf wordsFrom
 three-read b i x y z k ex ey ez =
     let s1 : i + 24 + 8 ≡ i + 32 = omega arith in
     let s2 : i + 32 + 8 ≡ i + 40 = omega arith in
@@ -95,19 +95,19 @@ returns c =
     (c .before .before .read-le2 .ensures) (c .before .read-le3 .ensures) (c .read-le4 .ensures)
 
 returns-2 : tie.Need-returns-2
-unfolding shapeOf requestOf parametersFrom
+unfolding shapeOf requestOf wordsFrom
 returns-2 c =
     let m = c .before in
     ap Poisson (c .read-le5 .ensures) ∙ request-read _ _ 2 (sym (m .before .read-le .ensures) ∙ m .match .keys2)
 
 returns-3 : tie.Need-returns-3
-unfolding shapeOf requestOf parametersFrom
+unfolding shapeOf requestOf wordsFrom
 returns-3 c =
     let m = c .before in
     ap Geometric (c .read-le6 .ensures) ∙ request-read _ _ 3 (sym (m .before .read-le .ensures) ∙ m .match .keys3)
 
 returns-4 : tie.Need-returns-4
-unfolding shapeOf requestOf parametersFrom
+unfolding shapeOf requestOf wordsFrom
 returns-4 c =
     let r = c .before in
     let e = r .read-le .ensures in
