@@ -27,12 +27,13 @@ use Rattle.layout.proofs.Walking.{walked-damaged, walked-sound}
 use Rattle.book.specs.Calls.{mostBytes, bookTooLong, isNone, isDamaged, booked, limits, Standing, stands, standing, IsOpen, opened}
 use Rattle.book.specs.Deliver.{blank}
 
+-- an option that is not none is its value
+pub is-some : (o : Option (List Entry)) → isNone o ≡ false → o ≡ some (Option·getD o [])
+is-some none e = let z : _≡_ {A = ℕ} 0 1 = cc in absurd (omega arith)
+is-some (some es) e = refl
+
 module _ (ws b : List ℕ) where
   -- ---- past the limits
-
-  is-some : (o : Option (List Entry)) → isNone o ≡ false → o ≡ some (Option·getD o [])
-  is-some none e = let z : _≡_ {A = ℕ} 0 1 = cc in absurd (omega arith)
-  is-some (some es) e = refl
 
   -- a call that passed them has the entries of a sound book
   pub open-decodes : NoneHolds (limits ws b) → decode (length ws) b ≡ some (booked ws b)

@@ -1,5 +1,5 @@
 -- 01, 'The book': an entry and its bytes. Assumes nothing.
-use Prim.Native.Nat.{ℕ, zero, suc, _+_}
+use Prim.Native.Nat.{ℕ, _+_}
 use mathlib.Core.List.{List, [], _∷_, _++_}
 use lib.ListN.{drop}
 use Rattle.bytes_le.specs.LittleEndian.{bytesOf, spelled, wordsFrom}

@@ -3,7 +3,6 @@ use borrow.Author.Needs.{needs}
 use mathlib.Core.Path.{_≡_, _∙_}
 use Prim.Native.Nat.{_+_, _-_, _*_, _≤_}
 use native.Mathlib.Nat.{add-zero, sub-zero}
-use native.Mathlib.Omega.{arith}
 use lib.ListN.{length, length-set, drop}
 use lib.Seq.{sets}
 use Rattle.bytes_le.specs.LittleEndian.{wordsFrom}

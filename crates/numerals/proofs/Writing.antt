@@ -1,0 +1,157 @@
+-- Laws of what is written: texts one after another are one text, and a number's digits are few and are read as it. Assumes nothing.
+use mathlib.Core.Path.{_≡_, refl, sym, ap, ap₂, _∙_}
+use mathlib.Core.Bool.{true, false, _&&_, and-assoc}
+use mathlib.Core.Logic.{⊎-elim}
+use mathlib.Core.List.{List, [], _∷_, _++_}
+use Prim.Native.Nat.{ℕ, zero, suc, _+_, _*_, _/_, _%_, _^_, _≤_, _<_}
+use native.Mathlib.Nat.{add-zero, pow-suc, eq-zero-or-pos}
+use native.Mathlib.Numerals.{add-one}
+use native.Mathlib.Omega.{arith}
+use borrow.Author.Tests.{lt-ltb, le-ltb, le-leb}
+use lib.Dec.{ltb}
+use lib.ListN.{length, getD, take, drop, set, length-append, drop-of-length-le}
+use lib.Seq.{sets, sets-eq, length-sets, drop-cons, take-append-seam}
+use Rattle.numerals.specs.declared.Number.the-variants.{Is}
+use Rattle.numerals.specs.Digits.{decimalOf, decimal, digitOf, areDigits, spells, continued, isEmpty, number}
+use Rattle.numerals.specs.Writing.{Writes}
+use Rattle.numerals.proofs.Reading.{spells-append}
+
+-- ---- texts
+
+-- a run of stores, and then another after it
+sets-append : (l : List ℕ) (i : ℕ) (xs ys : List ℕ) → sets l i (xs ++ ys) ≡ sets (sets l i xs) (i + length xs) ys
+sets-append l i [] ys = ap (λ (k : ℕ). sets l k ys) (sym (add-zero i))
+sets-append l i (x ∷ xs) ys =
+    let e : suc i + length xs ≡ i + suc (length xs) = omega arith in
+    sets-append (set l i x) (suc i) xs ys ∙ ap (λ (k : ℕ). sets (sets (set l i x) (suc i) xs) k ys) e
+
+-- a text written right after another makes one text with it
+pub written-next : (l m d : List ℕ) (i j k : ℕ) (xs ys : List ℕ) → Writes l i xs m j → Writes m j ys d k → Writes l i (xs ++ ys) d k
+written-next l m d i j k xs ys p q = record {
+  bytes = q .bytes ∙ ap₂ (λ (b : List ℕ) (n : ℕ). sets b n ys) (p .bytes) (p .place) ∙ sym (sets-append l i xs ys);
+  place = omega (arith, length-append xs ys, p .place, q .place);
+  room = omega (arith, q .room, ap length (p .bytes), length-sets l i xs);
+}
+
+-- what was written at the front is read there
+pub written-whole : (l t : List ℕ) → length t ≤ length l → take (length t) (sets l 0 t) ≡ t
+written-whole l t h = ap (take (length t)) (sets-eq t l 0 (omega arith)) ∙ take-append-seam t _
+
+-- with the byte i stored, what is left to store is the bytes after it
+pub text-turn : (l t : List ℕ) (at i : ℕ) → i < length t → sets (set l (at + i) (getD t i 0)) (at + (i + 1)) (drop (i + 1) t) ≡ sets l (at + i) (drop i t)
+text-turn l t at i h =
+    let e : at + (i + 1) ≡ suc (at + i) = omega arith in
+    rw (e, add-one i, drop-cons t i 0 h)
+
+-- past the last, nothing is left to store
+pub text-done : (l d t : List ℕ) (j i : ℕ) → length t ≤ i → sets l j (drop i t) ≡ d → l ≡ d
+text-done l d t j i h e = rw (drop-of-length-le t h) at e
+
+-- ---- a number's digits
+
+-- a number below 10 is one digit
+of-small : (k n : ℕ) → n < 10 → decimalOf (suc k) n ≡ (48 + n) ∷ []
+unfolding decimalOf
+of-small k n h = let e : n % 10 ≡ n = omega arith in rw (lt-ltb n 10 h, e)
+
+-- any other is the digits of its tenth, and one more
+of-more : (k n : ℕ) → 10 ≤ n → decimalOf (suc k) n ≡ decimalOf k (n / 10) ++ ((48 + n % 10) ∷ [])
+unfolding decimalOf
+of-more k n h = rw (le-ltb n 10 h)
+
+-- so what is shown in these two cases holds of a number's digits
+by-size : (P : List ℕ → Type 0) (k n : ℕ) → (n < 10 → P ((48 + n) ∷ [])) → (10 ≤ n → P (decimalOf k (n / 10) ++ ((48 + n % 10) ∷ []))) → P (decimalOf (suc k) n)
+by-size P k n f g =
+    ⊎-elim (λ e. rw (of-small k n (omega arith)) (f (omega arith))) (λ p. rw (of-more k n (omega arith)) (g (omega arith))) (eq-zero-or-pos (n / 10))
+
+-- a number below 10^(k + 1) has at most k + 1 digits, whatever the bound j on them
+length-of : (j k n : ℕ) → n < 10 ^ suc k → length (decimalOf j n) ≤ suc k
+unfolding decimalOf
+length-of zero k n h = omega arith
+length-of (suc j) zero n h = by-size (λ (l : List ℕ). length l ≤ 1) j n (λ s. omega arith) (λ m. absurd (omega arith))
+length-of (suc j) (suc k) n h =
+    by-size (λ (l : List ℕ). length l ≤ suc (suc k)) j n (λ s. omega arith)
+    (λ m. rw length-append (omega (arith, length-of j k (n / 10) (omega (arith, pow-suc 10 (suc k))))))
+
+-- two bounds that the number keeps give the same digits
+same : (j k n : ℕ) → n < 10 ^ suc j → n < 10 ^ suc k → decimalOf (suc j) n ≡ decimalOf (suc k) n
+same zero k n p q = of-small zero n (omega arith) ∙ sym (of-small k n (omega arith))
+same (suc j) zero n p q = of-small (suc j) n (omega arith) ∙ sym (of-small zero n (omega arith))
+same (suc j) (suc k) n p q =
+    by-size (λ (l : List ℕ). l ≡ decimalOf (suc (suc k)) n) (suc j) n (λ s. sym (of-small (suc k) n s))
+    (λ m. ap (λ (l : List ℕ). l ++ ((48 + n % 10) ∷ [])) (same j k (n / 10) (omega (arith, pow-suc 10 (suc j))) (omega (arith, pow-suc 10 (suc k)))) ∙ sym (of-more (suc k) n m))
+
+-- a number below 10^k has at most k digits
+pub length-decimal : (n k : ℕ) → 0 < k → n < 10 ^ k → length (decimal n) ≤ k
+unfolding decimal
+length-decimal n zero p h = absurd (omega arith)
+length-decimal n (suc k) p h = length-of 20 k n h
+
+-- the two cases again, without the bound: below 10^20 it decides nothing
+pub decimal-small : (n : ℕ) → n < 10 → decimal n ≡ (48 + n) ∷ []
+unfolding decimal
+decimal-small n h = of-small 19 n h
+
+pub decimal-more : (n : ℕ) → 10 ≤ n → n < 10 ^ 20 → decimal n ≡ decimal (n / 10) ++ ((48 + n % 10) ∷ [])
+unfolding decimal
+decimal-more n m h = of-more 19 n m ∙ ap (λ (l : List ℕ). l ++ ((48 + n % 10) ∷ [])) (same 18 19 (n / 10) (omega arith) (omega arith))
+
+-- the last of them takes one byte
+pub length-more : (n : ℕ) → 10 ≤ n → n < 10 ^ 20 → length (decimal n) ≡ length (decimal (n / 10)) + 1
+length-more n m h = ap length (decimal-more n m h) ∙ length-append (decimal (n / 10)) ((48 + n % 10) ∷ [])
+
+-- ---- digits read
+
+-- a digit's byte stands for it
+digit-byte : (d : ℕ) → d < 10 → digitOf (48 + d) ≡ d
+unfolding digitOf
+digit-byte d h = rw (le-leb 48 (48 + d) (omega arith), le-leb (48 + d) 57 (omega arith)) (omega arith)
+
+-- a text is digits where both its parts are
+digits-append : (b : ℕ) (xs ys : List ℕ) → areDigits b (xs ++ ys) ≡ (areDigits b xs && areDigits b ys)
+unfolding areDigits
+digits-append b [] ys = refl
+digits-append b (x ∷ xs) ys = rw (digits-append b xs ys) (sym (and-assoc (ltb (digitOf x) b) (areDigits b xs) (areDigits b ys)))
+
+-- a text with a last byte is not empty
+some-last : (xs : List ℕ) (y : ℕ) → isEmpty (xs ++ (y ∷ [])) ≡ false
+some-last [] y = refl
+some-last (x ∷ xs) y = refl
+
+-- a text of digits, one or more, that spell a number
+record Spelt (n : ℕ) (l : List ℕ) : Type 0 where
+  some : isEmpty l ≡ false
+  digits : areDigits 10 l ≡ true
+  spell : spells 10 0 l ≡ n
+
+-- such a text is read as it
+spelt-read : (n m : ℕ) (l : List ℕ) → n ≤ m → Spelt n l → number 10 m l ≡ Is n
+unfolding number continued
+spelt-read n m l h s = rw (s .some, s .digits, s .spell, le-leb n m h)
+
+-- one digit spells itself
+spelt-one : (n : ℕ) → n < 10 → Spelt n ((48 + n) ∷ [])
+unfolding areDigits spells
+spelt-one n h = record { some = refl; digits = rw (digit-byte n h, lt-ltb n 10 h); spell = rw (digit-byte n h) (omega arith) }
+
+-- one digit more spells ten times as much and itself
+spelt-next : (n d : ℕ) (l : List ℕ) → d < 10 → Spelt n l → Spelt (10 * n + d) (l ++ ((48 + d) ∷ []))
+unfolding areDigits spells
+spelt-next n d l h s = record {
+  some = some-last l (48 + d);
+  digits = rw (digits-append, s .digits, digit-byte d h, lt-ltb d 10 h);
+  spell = rw (spells-append, s .spell, digit-byte d h);
+}
+
+-- a number's digits spell it
+spelt-of : (k n : ℕ) → n < 10 ^ suc k → Spelt n (decimalOf (suc k) n)
+spelt-of zero n h = by-size (Spelt n) zero n (spelt-one n) (λ m. absurd (omega arith))
+spelt-of (suc k) n h =
+    by-size (Spelt n) (suc k) n (spelt-one n)
+    (λ m. let e : 10 * (n / 10) + n % 10 ≡ n = omega arith in
+    rw e at (spelt-next (n / 10) (n % 10) (decimalOf (suc k) (n / 10)) (omega arith) (spelt-of k (n / 10) (omega (arith, pow-suc 10 (suc k))))))
+
+-- what is written is read
+pub decimal-reads : (n m : ℕ) → n < 10 ^ 20 → n ≤ m → number 10 m (decimal n) ≡ Is n
+unfolding decimal
+decimal-reads n m h g = spelt-read n m (decimalOf 20 n) g (spelt-of 19 n h)

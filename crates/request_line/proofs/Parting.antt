@@ -1,0 +1,96 @@
+-- Laws of a line as it is parted into words, and of texts compared. Assumes nothing.
+use mathlib.Core.Path.{_≡_, refl, sym, ap, ap₂, _∙_}
+use mathlib.Core.Bool.{true, false, cond, and-false}
+use mathlib.Core.List.{List, [], _∷_}
+use Prim.Native.Nat.{ℕ, suc, _+_, _-_, _≤_, _<_}
+use native.Mathlib.Nat.{zero-add}
+use native.Mathlib.Numerals.{add-one}
+use native.Mathlib.Omega.{arith}
+use lib.Dec.{eqb, eqb·suc-suc}
+use lib.ListN.{length, getD, take, drop, drop-of-length-le}
+use lib.Seq.{drop-cons}
+use borrow.Author.Tests.{eq-eqb, ne-eqb}
+use Rattle.bytes.specs.Bytes.{slice, indexOf}
+use Rattle.numerals.specs.Split.{past}
+use Rattle.numerals.proofs.Reading.{find-ends, find-past}
+use Rattle.request_line.specs.Words.{space, pastWords, word, spaces, words, sameText}
+
+-- ---- the words
+
+-- the next of the words that are left
+pub words-turn : (k i : ℕ) (l : List ℕ) → i < k → pastWords (k - i) l ≡ pastWords (k - (i + 1)) (past space l)
+unfolding pastWords
+words-turn k i l h = let n : k - i ≡ suc (k - (i + 1)) = omega arith in rw n
+
+-- none is left
+pub words-end : (k i : ℕ) (l : List ℕ) → k ≤ i → pastWords (k - i) l ≡ l
+unfolding pastWords
+words-end k i l h = let n : k - i ≡ 0 = omega arith in rw n
+
+-- the first space from a place on, or the line's end
+module _ (l : List ℕ) (from to : ℕ) (e : to ≡ from + indexOf space (slice from (length l) l)) where
+  -- what stands after it
+  pub after-space : drop (to + 1) l ≡ past space (drop from l)
+  after-space = rw (e, add-one) (find-past space from l)
+
+  -- at the end nothing does
+  pub after-end : length l ≤ to → drop to l ≡ past space (drop from l)
+  after-end h = drop-of-length-le l h ∙ sym (drop-of-length-le l {i = to + 1} (omega arith)) ∙ after-space
+
+  -- what stands before it is a word
+  pub part-word : (k : ℕ) → drop from l ≡ pastWords k l → take (to - from) (drop from l) ≡ word k l
+  unfolding word
+  part-word k d =
+      let n : to - from ≡ indexOf space (slice from (length l) l) = omega arith in
+      rw (n, ← d) (find-ends space from l)
+
+-- ---- a turn of the loop that counts spaces
+
+module _ (l : List ℕ) (i : ℕ) where
+  -- the byte at i, and then the rest
+  space-counted : i < length l → spaces (drop i l) ≡ cond (eqb (getD l i 0) space) 1 0 + spaces (drop (i + 1) l)
+  unfolding spaces
+  space-counted h = rw add-one (ap spaces (drop-cons l i 0 h))
+
+  -- a space is one more
+  pub space-yes : i < length l → getD l i 0 ≡ space → spaces (drop i l) ≡ 1 + spaces (drop (i + 1) l)
+  space-yes h e = rw (space-counted h, eq-eqb (getD l i 0) space e)
+
+  -- another byte is none
+  pub space-no : i < length l → (getD l i 0 ≡ space → ⊥) → spaces (drop i l) ≡ spaces (drop (i + 1) l)
+  space-no h e = rw (space-counted h, ne-eqb (getD l i 0) space e) (zero-add _)
+
+  -- at the end none is left
+  pub space-end : length l ≤ i → spaces (drop i l) ≡ 0
+  unfolding spaces
+  space-end h = rw (drop-of-length-le l h)
+
+-- one word more than spaces
+pub words-counted : (l : List ℕ) (k : ℕ) → 0 < k → eqb (spaces l) (k - 1) ≡ eqb (words l) k
+unfolding words
+words-counted l k h =
+    let n : suc (k - 1) ≡ k = omega arith in
+    sym (eqb·suc-suc (spaces l) (k - 1)) ∙ ap₂ eqb (sym (add-one (spaces l))) n
+
+-- ---- a turn of the loop that compares
+
+-- texts of two lengths differ
+pub lengths-differ : (a b : List ℕ) → (length a ≡ length b → ⊥) → sameText a b ≡ false
+lengths-differ [] [] h = absurd (h refl)
+lengths-differ [] (y ∷ ys) h = refl
+lengths-differ (x ∷ xs) [] h = refl
+lengths-differ (x ∷ xs) (y ∷ ys) h = rw (lengths-differ xs ys (λ e. h (ap suc e)), and-false)
+
+module _ (a b : List ℕ) (i : ℕ) where
+  module _ (h : i < length a) (k : i < length b) where
+    -- the same byte in both leaves it to the rest
+    pub byte-same : getD a i 0 ≡ getD b i 0 → sameText (drop i a) (drop i b) ≡ sameText (drop (i + 1) a) (drop (i + 1) b)
+    byte-same e = rw (drop-cons a i 0 h, drop-cons b i 0 k, eq-eqb (getD a i 0) (getD b i 0) e, add-one)
+
+    -- two bytes that differ decide
+    pub byte-differs : (getD a i 0 ≡ getD b i 0 → ⊥) → sameText (drop i a) (drop i b) ≡ false
+    byte-differs e = rw (drop-cons a i 0 h, drop-cons b i 0 k, ne-eqb (getD a i 0) (getD b i 0) e)
+
+  -- at the end of both no byte differed
+  pub bytes-end : length a ≤ i → length b ≤ i → sameText (drop i a) (drop i b) ≡ true
+  bytes-end h k = rw (drop-of-length-le a h, drop-of-length-le b k)

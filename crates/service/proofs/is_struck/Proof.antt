@@ -1,0 +1,19 @@
+-- `service::is_struck` meets its contract. Assumes nothing.
+use borrow.Author.Needs.{needs}
+use Rattle.service.proofs.is_struck.Statement.{statement}
+use Rattle.service.proofs.is_struck.Tie as tie
+
+enum-told : tie.Need-enum-told
+enum-told c = search needs
+
+enum-told-2 : tie.Need-enum-told-2
+enum-told-2 c = search needs
+
+returns : tie.Need-returns
+returns c = rw (c .enum-told .given .1)
+
+returns-2 : tie.Need-returns-2
+returns-2 c = search needs
+
+pub is-struck-spec : {M : Type 1} → statement M
+is-struck-spec = tie.close (tie.spec enum-told enum-told-2 returns returns-2)

@@ -1,0 +1,62 @@
+-- What the pull service does with one line: what it says, the book after it, and whether the book has to be written. Assumes nothing.
+use Prim.Native.Nat.{ℕ}
+use mathlib.Core.Bool.{Bool, true, false, not}
+use mathlib.Core.List.{List, []}
+use mathlib.Core.Path.{_≡_}
+use lib.Dec.{eqb}
+use Rattle.words.specs.Outcome.{Outcome, drawn, refused}
+use Rattle.book.specs.Calls.{Call}
+use Rattle.book.specs.Deliver.{Booking, fresh, copy, deliver}
+use Rattle.book.specs.Strike.{strike}
+use Rattle.book.specs.Redraw.{redraw}
+use Rattle.numerals.specs.Writing.{Writes}
+use Rattle.request_line.specs.declared.Line.{Line}
+use Rattle.request_line.specs.declared.Line.the-variants.{Deliver, Strike, Redraw, Passed, Unread}
+use Rattle.request_line.specs.Forms.{readLine}
+use Rattle.text.specs.Answers.{deliveryLine, strikeLine, redrawLine, unreadLine}
+
+pub record Service : Type 0 where
+  -- the answer's line; nothing for a line that is passed over
+  pub said : List ℕ
+  -- the book at the end
+  pub book : List ℕ
+  -- whether the call changed it
+  pub changed : Bool
+
+abbrev pub serving : List ℕ → List ℕ → Bool → Service
+serving t b c = record { said = t; book = b; changed = c }
+
+-- a fresh booking changes the book, a copy and a refusal don't
+abbrev pub isFresh : Outcome Booking → Bool
+isFresh (drawn (fresh c) u) = true
+isFresh (drawn (copy c) u) = false
+isFresh (refused n) = false
+
+-- a strike of 0 entries changes nothing
+abbrev pub isStruck : ℕ → Outcome ℕ → Bool
+isStruck j (drawn n u) = not (eqb j 0)
+isStruck j (refused n) = false
+
+abbrev pub delivering : ℕ → Call Booking → Service
+delivering s c = serving (deliveryLine s (c .outcome)) (c .book) (isFresh (c .outcome))
+
+abbrev pub striking : ℕ → Call ℕ → Service
+striking j c = serving (strikeLine (c .outcome)) (c .book) (isStruck j (c .outcome))
+
+-- the call that a line asks for, over the words ws and the book b; a line that can't be read calls nothing, and is named by its number k
+abbrev pub answered : List ℕ → List ℕ → ℕ → Line → Service
+answered ws b k (Deliver s r) = delivering s (deliver ws b s r)
+answered ws b k (Strike j) = striking j (strike ws b j)
+answered ws b k Redraw = serving (redrawLine (redraw ws b)) b false
+answered ws b k Passed = serving [] b false
+answered ws b k Unread = serving (unreadLine k) b false
+
+unfoldable pub serve : List ℕ → List ℕ → ℕ → List ℕ → Service
+serve ws b k l = answered ws b k (readLine l)
+
+-- a call of the service does what the rule says: its answer stands at the front of the bytes lent for it, its length is told, the book
+-- is as the rule leaves it, and so is whether it was changed
+pub record Meets (out : List ℕ) (s : Service) (n : ℕ) (c : Bool) (b : List ℕ) (after : List ℕ) : Type 0 where
+  pub writes : Writes out 0 (s .said) after n
+  pub leaves : b ≡ s .book
+  pub tells : c ≡ s .changed
