@@ -37,6 +37,10 @@ written-next l m d i j k xs ys p q = record {
 pub written-whole : (l t : List ℕ) → length t ≤ length l → take (length t) (sets l 0 t) ≡ t
 written-whole l t h = ap (take (length t)) (sets-eq t l 0 (omega arith)) ∙ take-append-seam t _
 
+-- the place after a text lies within the bytes that it was written to
+pub written-within : {l t m : List ℕ} {i j : ℕ} → Writes l i t m j → j ≤ length m
+written-within {l} {t} {m} {i} w = omega (arith, w .room, ap length (w .bytes), length-sets l i t)
+
 -- with the byte i stored, what is left to store is the bytes after it
 pub text-turn : (l t : List ℕ) (at i : ℕ) → i < length t → sets (set l (at + i) (getD t i 0)) (at + (i + 1)) (drop (i + 1) t) ≡ sets l (at + i) (drop i t)
 text-turn l t at i h =
