@@ -5,3 +5,4 @@ pub mod Laws
 pub mod Standing
 pub mod Demand3
 pub mod Dead
+pub mod Lines

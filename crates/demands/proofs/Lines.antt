@@ -1,0 +1,131 @@
+-- The pull service keeps demand 3, proved: its lines are calls of that demand, and a request that is read fits 64 bits. Assumes nothing.
+use mathlib.Core.Path.{_≡_, refl}
+use mathlib.Core.Bool.{false, _&&_}
+use mathlib.Core.List.{List, [], _∷_, _++_}
+use Prim.Native.Nat.{ℕ, suc, _-_, _^_, _<_}
+use native.Mathlib.Omega.{arith}
+use lib.Dec.{eqb, ltb}
+use lib.Ieee.{binary64, round}
+use lib.Ieee.Bits.{toBits-lt}
+use lib.Ieee.Fits.{round-fits}
+use lib.ListN.{length, drop, replicate}
+use Rattle.draws.specs.declared.Request.{Request}
+use Rattle.layout.proofs.Decoding.{by-test}
+use Rattle.numerals.specs.declared.Number.{Number}
+use Rattle.numerals.specs.declared.Number.the-variants as read
+use Rattle.numerals.specs.declared.Number.the-variants.{Is}
+use Rattle.numerals.specs.Digits.{number}
+use Rattle.numerals.specs.Decimal.{isDecimal, wholeOf, placesOf, isShort, nearestBits, decimalBits, isHexadecimal, floatBits}
+use Rattle.numerals.proofs.Reading.{number-within}
+use Rattle.request_line.specs.declared.Line.{Line}
+use Rattle.request_line.specs.declared.Line.the-variants.{Deliver, Strike, Redraw, Passed, Unread}
+use Rattle.request_line.specs.Words.{word, words, sameText}
+use Rattle.request_line.specs.Forms.{deliverText, strikeText, redrawText, hypergeometricText, poissonText, geometricText, standardText, isForm, onNumber, numberAt, trayAsked, poissonAsked, geometricAsked, requestAsked, onAsked, deliverLine, strikeLine, redrawLine, callLine, isPassed, readLine}
+use Rattle.service.specs.Service.{answered, serve}
+use Rattle.demands.specs.Demand3.{Operation, delivering, striking, State, state, next, run, OperationsFit}
+use Rattle.demands.specs.Lines.{operationOf, operationsOf, servedAll, LinesKept}
+use Rattle.demands.proofs.Demand3.{demand-3}
+
+-- ---- the book that the lines leave is the one that their calls leave
+
+-- calls after calls go on from the state that those leave
+run-append : (ws : List ℕ) (os ps : List Operation) (st : State) → run ws st (os ++ ps) ≡ run ws (run ws st os) ps
+run-append ws [] ps st = refl
+run-append ws (o ∷ os) ps st = run-append ws os ps (next ws st o)
+
+-- one line's book is the one that its call leaves, if it asks for one
+answered-run : (ws : List ℕ) (st : State) (k : ℕ) (x : Line) → answered ws (st .book) k x .book ≡ run ws st (operationOf x) .book
+answered-run ws st k (Deliver s r) = refl
+answered-run ws st k (Strike j) = refl
+answered-run ws st k Redraw = refl
+answered-run ws st k Passed = refl
+answered-run ws st k Unread = refl
+
+-- and so for lines one after another
+served-run : (ws : List ℕ) (ls : List (List ℕ)) (st : State) (k : ℕ) → servedAll ws (st .book) k ls ≡ run ws st (operationsOf ls) .book
+unfolding serve servedAll operationsOf
+served-run ws [] st k = refl
+served-run ws (l ∷ ls) st k =
+    let os : List Operation = operationOf (readLine l) in
+    rw (answered-run ws st k (readLine l), run-append ws os (operationsOf ls) st) (served-run ws ls (run ws st os) (suc k))
+
+-- ---- a number that is read is below 2^64
+
+-- a whole number that may be at most 2^64 - 1
+number-below : (b v : ℕ) (l : List ℕ) → number b (2 ^ 64 - 1) l ≡ Is v → v < 2 ^ 64
+number-below b v l e = omega (arith, number-within b (2 ^ 64 - 1) v l e)
+
+-- the bits of a binary64 are 64
+nearest-below : (a b : ℕ) → nearestBits a b < 2 ^ 64
+unfolding nearestBits
+nearest-below a b = toBits-lt binary64 (round binary64 false a b) (round-fits binary64 false a b)
+
+-- the bits of a float, by its hexadecimal digits or by a decimal
+float-below : (v : ℕ) (l : List ℕ) → floatBits l ≡ Is v → v < 2 ^ 64
+unfolding floatBits decimalBits
+float-below v l =
+    let P : Number → Type 0 = λ x. x ≡ Is v → v < 2 ^ 64 in
+    by-test P (isHexadecimal l) (λ _ e. number-below 16 v (drop 2 l) e)
+    (λ _. by-test P (isDecimal l && isShort l)
+    (λ _ e. let q : nearestBits (wholeOf l) (10 ^ placesOf l) ≡ v = cc in rw (← q) (nearest-below (wholeOf l) (10 ^ placesOf l)))
+    (λ _ e. let z : _≡_ {A = ℕ} 0 1 = cc in absurd (omega arith)))
+
+-- a number's two cases, with what was read
+by-number : {X : Type 0} (P : X → Type 0) (n : Number) {f : ℕ → X} {x : X} → ((v : ℕ) → n ≡ Is v → P (f v)) → P x → P (onNumber n f x)
+by-number P (Is v) g h = g v refl
+by-number P read.Unread g h = h
+
+-- ---- so a request that is read fits
+
+-- a line's request, if it has one, has parameters of 64 bits
+abbrev LineFits : Line → Type 0
+LineFits x = OperationsFit (operationOf x)
+
+-- the same of what f makes a line of
+abbrev FitsBy : {X : Type 0} → (X → Line) → X → Type 0
+FitsBy f x = LineFits (f x)
+
+module _ (l : List ℕ) where
+  -- the request of a delivery, of each kind
+  request-fits : (s : ℕ) → LineFits (onAsked (requestAsked l) (λ (r : Request). Deliver s r) Unread)
+  unfolding requestAsked trayAsked poissonAsked geometricAsked
+  request-fits s =
+      let P = FitsBy (λ a. onAsked a (λ (r : Request). Deliver s r) Unread) in
+      by-test P (isForm 6 2 hypergeometricText l)
+      (λ _. by-number P (numberAt 3 l)
+      (λ N a. by-number P (numberAt 4 l)
+      (λ K b. by-number P (numberAt 5 l)
+      (λ n c. ((number-below 10 N (word 3 l) a, (number-below 10 K (word 4 l) b, (number-below 10 n (word 5 l) c, tt))), tt)) tt) tt) tt)
+      (λ _. by-test P (isForm 4 2 poissonText l) (λ _. by-number P (floatBits (word 3 l)) (λ v e. ((float-below v (word 3 l) e, tt), tt)) tt)
+      (λ _. by-test P (isForm 4 2 geometricText l) (λ _. by-number P (floatBits (word 3 l)) (λ v e. ((float-below v (word 3 l) e, tt), tt)) tt)
+      (λ _. by-test P (isForm 3 2 standardText l) (λ _. (tt, tt)) (λ _. tt))))
+
+  -- every line: only a delivery has a request
+  line-fits : LineFits (readLine l)
+  unfolding readLine callLine deliverLine strikeLine redrawLine
+  line-fits =
+      by-test LineFits (ltb 255 (length l)) (λ _. tt)
+      (λ _. by-test LineFits (isPassed l) (λ _. tt)
+      (λ _. by-test LineFits (sameText (word 0 l) deliverText) (λ _. by-number LineFits (number 10 (2 ^ 32 - 1) (word 1 l)) (λ s _. request-fits s) tt)
+      (λ _. by-test LineFits (sameText (word 0 l) strikeText)
+      (λ _. by-test LineFits (eqb (words l) 2) (λ _. by-number LineFits (numberAt 1 l) (λ j _. tt) tt) (λ _. tt))
+      (λ _. by-test LineFits (sameText (word 0 l) redrawText) (λ _. by-test LineFits (eqb (words l) 1) (λ _. tt) (λ _. tt)) (λ _. tt)))))
+
+-- ---- and so do the calls of all lines
+
+-- calls that fit after calls that fit
+append-fits : (os ps : List Operation) → OperationsFit os → OperationsFit ps → OperationsFit (os ++ ps)
+append-fits [] ps h k = k
+append-fits (delivering s r ∷ os) ps h k = (h .0, append-fits os ps (h .1) k)
+append-fits (striking j ∷ os) ps h k = append-fits os ps h k
+
+-- the calls that lines ask for
+operations-fit : (ls : List (List ℕ)) → OperationsFit (operationsOf ls)
+unfolding operationsOf
+operations-fit [] = tt
+operations-fit (l ∷ ls) = append-fits (operationOf (readLine l)) (operationsOf ls) (line-fits l) (operations-fit ls)
+
+-- demand 3 for these calls, at the book that the service leaves
+pub lines-kept : LinesKept
+lines-kept ws n k ls =
+    rw (served-run ws ls (state (replicate n 0) []) k) (demand-3 .kept ws n (operationsOf ls) (operations-fit ls))
