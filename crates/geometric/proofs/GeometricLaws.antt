@@ -1,6 +1,6 @@
 -- Laws of the geometric draw: what 01 says of module 3 beside the rules themselves. Assumes nothing.
 use mathlib.Core.Path.{_≡_, refl, sym, ap, ap₂, _∙_, subst}
-use mathlib.Core.Bool.{Bool, true, false, true≢false, cond}
+use mathlib.Core.Bool.{Bool, true, false, _&&_, true≢false, cond}
 use mathlib.Core.List.{List}
 use mathlib.Core.Logic.{_⊎_, inl, inr, _↔_}
 use Prim.Native.Nat.{ℕ, suc, _+_, _*_, _-_, _%_, _^_, _≤_, _<_}
@@ -9,19 +9,20 @@ use native.Mathlib.Omega.{arith}
 use borrow.Author.Count.{below-none, below-more}
 use lib.ListN.{length, take, getD}
 use lib.IntN.{pos}
-use lib.Ieee.{Float, nan, fin, binary64, round, lt, le, ofBits}
+use lib.Ieee.{Float, nan, fin, binary64, round, sub, div, lt, eq, le, ofBits}
 use Rattle.words.specs.Words.{mostWords, ratio, fractionOf}
 use Rattle.words.specs.Outcome.{Outcome, drawn, refused}
 use Rattle.words.specs.Rule.{done, more, Rule, reading, Local}
 use Rattle.words.specs.Refusals.{First}
 use Rattle.words.specs.Draw.{refusals}
+use Rattle.words.proofs.Patterns.{sign, bits-between, bits-over}
 use Rattle.words.proofs.Reading.{refused-not-drawn, reading-used, reading-short}
 use Rattle.words.proofs.Keeping.{After, after-cond, reading-keeps}
 use Rattle.words.proofs.Locality.{reading-local, cond-local, const-local}
 use Rattle.words.proofs.Drawing.{accepted-within, accepted-reading, draw-exactly, draw-local}
 use Rattle.geometric.specs.Power.{power}
 use Rattle.geometric.specs.Squares.{squares}
-use Rattle.geometric.specs.Geometric.{isProbability, isLarge, qOf, isNever, trivialRule, Search, firstRun, remainderWord, acceptance, searching, searchRule, geometricReading, probabilityRefusals, geometric}
+use Rattle.geometric.specs.Geometric.{isProbability, isLarge, qOf, isNever, trivialRule, Search, firstRun, remainderWord, acceptance, searching, searchRule, geometricReading, isTooRare, probabilityRefusals, geometric}
 use Rattle.geometric.proofs.Squarings.{span-bounds}
 
 -- ---- the range of p
@@ -38,6 +39,35 @@ probability-ends = (refl, refl, refl)
 pub probability-past : (isProbability (ofBits binary64 0x8000_0000_0000_0001) ≡ false) × (isProbability (ofBits binary64 0x3ff0_0000_0000_0001) ≡ false)
 unfolding isProbability le round ofBits
 probability-past = (refl, refl)
+
+-- of p by its bits: up to those of 1 it is a probability, and above them only -0.0 is
+abbrev pub one : ℕ
+one = 0x3ff0_0000_0000_0000
+
+probability-is : (x : Float) → isProbability x ≡ (le (ofBits binary64 0) x && le x (ofBits binary64 one))
+unfolding isProbability ofBits round
+probability-is x = refl
+
+module _ (bits : ℕ) where
+  pub bits-probability : bits ≤ one → isProbability (ofBits binary64 bits) ≡ true
+  bits-probability h = probability-is (ofBits binary64 bits) ∙ bits-between 0 one bits (omega arith) (omega arith) h
+
+  pub sign-probability : bits ≡ sign → isProbability (ofBits binary64 bits) ≡ true
+  unfolding isProbability le round ofBits
+  sign-probability e = rw e
+
+  -- of -0.0 the reading is the count 2^64 - 1 with no word, and it is not too rare
+  pub sign-never : (ws : List ℕ) → bits ≡ sign → geometricReading (ofBits binary64 bits) ws ≡ drawn (2 ^ 64 - 1) 0
+  unfolding geometricReading isLarge isNever qOf le eq sub div round ofBits
+  sign-never ws e = rw e
+
+  pub sign-not-rare : bits ≡ sign → isTooRare (ofBits binary64 bits) ≡ false
+  unfolding isTooRare isLarge isNever qOf le eq sub div round ofBits
+  sign-not-rare e = rw e
+
+  pub bits-not-probability : one < bits → bits < 2 ^ 64 → (bits ≡ sign → ⊥) → isProbability (ofBits binary64 bits) ≡ false
+  bits-not-probability h w z =
+      probability-is (ofBits binary64 bits) ∙ bits-over 0 one bits (omega arith) (omega arith) h w (λ e. absurd (z e))
 
 -- ---- p ≥ 2/3
 

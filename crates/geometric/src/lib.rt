@@ -4,17 +4,19 @@ use words::Refusal;
 use words::Word;
 ghost use mathlib.Core.Path.{_≡_};
 ghost use mathlib.Core.List.{[], _∷_};
-ghost use Prim.Native.Nat.{_≤_, _<_, _^_};
+ghost use Prim.Native.Nat.{_-_, _≤_, _^_};
 ghost use lib.ListN.{length, drop};
-ghost use lib.Ieee.{Float, binary64, ofBits};
-ghost use Rattle.words.specs.Words.{mostWords};
+ghost use mathlib.Core.Bool.{false};
+ghost use lib.Ieee.{Float, binary64, ofBits, lt};
+ghost use Rattle.words.specs.Words.{mostWords, ratio};
+ghost use Rattle.words.specs.Outcome.{drawn};
 ghost use Rattle.words.specs.Rule.{more, read, reading};
 ghost use Rattle.words.specs.Refusals.{_on_, given};
 ghost use Rattle.words.specs.Paper.{paper};
 ghost use Rattle.geometric.specs.Power.{powerOf};
 ghost use Rattle.geometric.specs.Squares.{squares};
 ghost use Rattle.geometric.specs.Geometric.{trivialRule, searchRule, remainderWord, geometricReading, isTooRare, geometric};
-ghost use Rattle.geometric.specs.Standard.{standardGeometric};
+ghost use Rattle.geometric.specs.Standard.{standardRule, standardGeometric};
 
 // The geometric draw: failures before the first success of probability p.
 pub fn sample(tape: &[u64], p: f64) -> Answer
@@ -31,17 +33,37 @@ pub fn sample(tape: &[u64], p: f64) -> Answer
     Answer::Refused(Refusal::InvalidProbability)
 }
 
-// The same with p by its 64 bits, as it travels and is booked. A pattern of NaN is no probability.
+// The bits of 1.
+const ONE: u64 = 0x3ff0_0000_0000_0000;
+
+// The bits of -0.0: the sign's alone.
+const MINUS_ZERO: u64 = 0x8000_0000_0000_0000;
+
+// The same with p by its 64 bits, as it travels and is booked. Floats from 0 up stand in the order of their bits, and the bits of an
+// infinity, a NaN or a float with a sign are above those of 1. Of these only -0.0 is a probability: it equals 0, and no success ever comes.
 pub fn sample_bits(tape: &[u64], p: u64) -> Answer
     ensures { λ r. ⌜ paper r ≡ geometric (ofBits binary64 p) (now (tape .entry)) ⌝ }
 {
     if words::too_long(tape) {
         return Answer::Refused(Refusal::TapeTooLong);
     }
-    if words::is_nan_pattern(p) {
-        return Answer::Refused(Refusal::InvalidProbability);
+    if p <= ONE {
+        return sample_valid(tape, f64::from_bits(p));
     }
-    sample(tape, f64::from_bits(p))
+    if p == MINUS_ZERO {
+        return never();
+    }
+    Answer::Refused(Refusal::InvalidProbability)
+}
+
+// No success ever comes: the largest count, and no word is used.
+fn never() -> Answer
+    ensures { λ r. ⌜ paper r ≡ drawn (2 ^ 64 - 1) 0 ⌝ }
+{
+    Answer::Drawn {
+        count: 0xffff_ffff_ffff_ffff,
+        used: 0,
+    }
 }
 
 // The draw of a probability between 0 and 1.
@@ -54,16 +76,13 @@ fn sample_valid(tape: &[u64], p: f64) -> Answer
     }
     let q = 1.0 - p;
     if q == 1.0 {
-        return Answer::Drawn {
-            count: 0xffff_ffff_ffff_ffff,
-            used: 0,
-        };
+        return never();
     }
-    let s = square(q);
-    if s.pi > 0.5 {
+    if q > MOST_Q {
         return Answer::Refused(Refusal::TooRare);
     }
-    sample_search(tape, q, s.span, s.pi)
+    let s = square(q);
+    sample_search(tape, q, s.k, s.pi)
 }
 
 // The trivial algorithm: fractions above p are failures, until one is not.
@@ -86,31 +105,33 @@ fn sample_trivial(tape: &[u64], p: f64) -> Answer
     }
 }
 
-// What the squarings of q come to: span is 2 to their number.
+// What the squarings of q come to, and their number k.
 struct Squared {
-    span: u64,
+    k: u32,
     pi: f64,
 }
 
-// The smallest number of squarings, at least one, that brings q to 0.5 or below, and at most 31.
+// The largest q that 31 squarings bring to 0.5 or below: 9007199251833722 / 2^53.
+const MOST_Q: f64 = 0.9999999996772282;
+
+// The smallest number of squarings, at least one, that brings q to 0.5 or below. Since q is not above MOST_Q it is at most 31.
 fn square(q: f64) -> Squared
-    ensures { λ r. ⌜ (r .span ≡ 2 ^ squares q .k) × (r .pi ≡ squares q .pi) ⌝ }
+    requires { ⌜ (lt (ratio 9007199251833722 (2 ^ 53)) q ≡ false) × (lt q (ratio 1 4) ≡ false) ⌝ }
+    ensures { λ r. ⌜ (r .k ≡ squares q .k) × (r .pi ≡ squares q .pi) ⌝ }
 {
     let mut pi = q * q;
     let mut k: u32 = 1;
-    let mut span: u64 = 2;
-    while pi > 0.5 && k < 31 {
+    while pi > 0.5 {
         pi = pi * pi;
         k += 1;
-        span *= 2;
     }
-    Squared { span, pi }
+    Squared { k, pi }
 }
 
 // d by the trivial algorithm from pi, and then the remainder.
-fn sample_search(tape: &[u64], q: f64, span: u64, pi: f64) -> Answer
-    requires { ⌜ (0 < span) × (span ≤ 2 ^ 31) × (length (now tape) ≤ mostWords) ⌝ }
-    ensures { λ r. ⌜ paper r ≡ reading (searchRule q span pi) (now (tape .entry)) ⌝ }
+fn sample_search(tape: &[u64], q: f64, k: u32, pi: f64) -> Answer
+    requires { ⌜ (k ≤ 31) × (length (now tape) ≤ mostWords) ⌝ }
+    ensures { λ r. ⌜ paper r ≡ reading (searchRule q (2 ^ k) pi) (now (tape .entry)) ⌝ }
 {
     let mut d: usize = 0;
     loop {
@@ -120,22 +141,25 @@ fn sample_search(tape: &[u64], q: f64, span: u64, pi: f64) -> Answer
         if words::fraction(w) < pi {
             d += 1;
         } else {
-            return sample_remainder(tape, q, span, d as u64, d + 1);
+            return sample_remainder(tape, q, k, d as u64, d + 1);
         }
     }
 }
 
-// The search for the remainder, from the place at on: m is any number below span, taken with probability q^m.
-fn sample_remainder(tape: &[u64], q: f64, span: u64, d: u64, at: usize) -> Answer
-    requires { ⌜ (0 < span) × (span ≤ 2 ^ 31) × (d ≤ mostWords) ⌝ }
-    ensures { λ r. ⌜ ((pi : Float) → paper r ≡ read (searchRule q span pi) (drop at (now (tape .entry))) (more (remainderWord d)) at) ⌝ }
+// The search for the remainder, from the place at on: m is any number below 2^k, taken with probability q^m. A word modulo 2^k is its
+// lowest k bits.
+fn sample_remainder(tape: &[u64], q: f64, k: u32, d: u64, at: usize) -> Answer
+    requires { ⌜ (k ≤ 31) × (d ≤ mostWords) ⌝ }
+    ensures { λ r. ⌜ ((pi : Float) → paper r ≡ read (searchRule q (2 ^ k) pi) (drop at (now (tape .entry))) (more (remainderWord d)) at) ⌝ }
 {
+    let span = 1u64 << k;
+    let mask = span - 1;
     let mut i = at;
     let m = loop {
         let Word::Is(w) = words::word_at(tape, i) else {
             return Answer::Refused(Refusal::Exhausted);
         };
-        let m = w % span;
+        let m = w & mask;
         let Word::Is(v) = words::word_at(tape, i + 1) else {
             return Answer::Refused(Refusal::Exhausted);
         };
@@ -157,15 +181,30 @@ fn power(r: f64, a: f64, b: u64) -> f64
     if b == 0 { r } else { power(r, a * a, b) }
 }
 
-// The standard geometric draw: p is one half, and each leading zero bit a failure.
+// The standard geometric draw: p is one half, and each leading zero bit a failure. All but one in 2^64 draws end with their first word.
 pub fn sample_standard(tape: &[u64]) -> Answer
     ensures { λ r. ⌜ paper r ≡ standardGeometric (now (tape .entry)) ⌝ }
 {
     if words::too_long(tape) {
         return Answer::Refused(Refusal::TapeTooLong);
     }
-    let mut result: u64 = 0;
-    let mut i: usize = 0;
+    let Word::Is(w) = words::word_at(tape, 0) else {
+        return Answer::Refused(Refusal::Exhausted);
+    };
+    if w == 0 {
+        return sample_after_zero(tape);
+    }
+    let count = u64::leading_zeros(w) as u64;
+    Answer::Drawn { count, used: 1 }
+}
+
+// The same draw from its second word on, where the first is 0: that has 64 leading zeros.
+fn sample_after_zero(tape: &[u64]) -> Answer
+    requires { ⌜ length (now tape) ≤ mostWords ⌝ }
+    ensures { λ r. ⌜ paper r ≡ read standardRule (drop 1 (now (tape .entry))) (more 64) 1 ⌝ }
+{
+    let mut result: u64 = 64;
+    let mut i: usize = 1;
     loop {
         let Word::Is(w) = words::word_at(tape, i) else {
             return Answer::Refused(Refusal::Exhausted);

@@ -13,7 +13,7 @@ ghost use Rattle.words.specs.Refusals.{_on_, given};
 ghost use Rattle.words.specs.Draw.{draw};
 ghost use Rattle.words.specs.Paper.{paper};
 ghost use Rattle.hypergeometric.specs.Reduction.{populationCap, landing, flip, Lands, byMarked, reduction};
-ghost use Rattle.hypergeometric.specs.First.{timesIn, overIn, atFactor, fractionOfFactorials, firstProbability};
+ghost use Rattle.hypergeometric.specs.First.{asFloat, timesIn, overIn, atFactor, fractionOfFactorials, firstProbability};
 ghost use Rattle.hypergeometric.specs.Inversion.{Small, nextP, inverted};
 ghost use Rattle.hypergeometric.specs.Hypergeometric.{withFirst, zeroOrNotFinite, settled, setUpPaper, FromSetUp, inversionRule, hypergeometric};
 
@@ -268,11 +268,7 @@ fn times(top: u64, i: u64, result: f64) -> f64
     requires { ⌜ i ≤ 2 ^ 53 ⌝ }
     ensures { λ r. ⌜ r ≡ timesIn top i result ⌝ }
 {
-    if i <= top {
-        result * (i as f64)
-    } else {
-        result
-    }
+    if i <= top { result * whole(i) } else { result }
 }
 
 // The same below the line.
@@ -281,10 +277,18 @@ fn over(bottom: u64, i: u64, result: f64) -> f64
     ensures { λ r. ⌜ r ≡ overIn bottom i result ⌝ }
 {
     if i <= bottom {
-        result / (i as f64)
+        result / whole(i)
     } else {
         result
     }
+}
+
+// A whole number as a float, up to 2^53 without loss. By way of i64, whose cast is one instruction of the machine; that of u64 is six.
+fn whole(n: u64) -> f64
+    requires { ⌜ n ≤ 2 ^ 53 ⌝ }
+    ensures { λ r. ⌜ r ≡ asFloat n ⌝ }
+{
+    (n as i64) as f64
 }
 
 fn smaller(a: u64, b: u64) -> u64
@@ -329,5 +333,5 @@ fn next_p(n1: u64, n2: u64, k: u64, x: u64, p: f64) -> f64
 {
     let up = (n1 - x) * (k - x);
     let down = (x + 1) * (n2 - k + 1 + x);
-    p * (up as f64) / (down as f64)
+    p * whole(up) / whole(down)
 }

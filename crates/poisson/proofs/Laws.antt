@@ -1,6 +1,6 @@
 -- Laws of the Poisson draw: what 01 says of module 2 beside the rule itself. Assumes nothing.
 use mathlib.Core.Path.{_≡_, refl, sym, ap, ap₂, _∙_}
-use mathlib.Core.Bool.{true, false}
+use mathlib.Core.Bool.{true, false, _&&_}
 use mathlib.Core.List.{List}
 use mathlib.Core.Logic.{_↔_}
 use Prim.Native.Nat.{ℕ, zero, suc, _+_, _^_, _≤_, _<_}
@@ -14,6 +14,7 @@ use Rattle.words.specs.Outcome.{drawn, refused}
 use Rattle.words.specs.Rule.{done, more, reading}
 use Rattle.words.specs.Refusals.{First}
 use Rattle.words.specs.Draw.{refusals}
+use Rattle.words.proofs.Patterns.{bits-between, bits-under, bits-over}
 use Rattle.words.proofs.Reading.{reading-used, reading-short}
 use Rattle.words.proofs.Keeping.{After, after-cond, reading-keeps}
 use Rattle.words.proofs.Locality.{reading-local}
@@ -32,6 +33,27 @@ range-ends = (refl, refl)
 pub range-past : (inRange (ofBits binary64 0x3ecf_ffff_ffff_ffff) ≡ false) × (inRange (ofBits binary64 0x3ff0_0000_0000_0001) ≡ false)
 unfolding inRange le round ofBits
 range-past = (refl, refl)
+
+-- of T by its bits: those of 2^-18 and of 1, and the bits between them are the range
+abbrev lowest : ℕ
+lowest = 0x3ed0_0000_0000_0000
+
+abbrev highest : ℕ
+highest = 0x3ff0_0000_0000_0000
+
+range-is : (x : Float) → inRange x ≡ (le (ofBits binary64 lowest) x && le x (ofBits binary64 highest))
+unfolding inRange ofBits round
+range-is x = refl
+
+module _ (bits : ℕ) where
+  pub bits-inside : lowest ≤ bits → bits ≤ highest → inRange (ofBits binary64 bits) ≡ true
+  bits-inside h k = range-is (ofBits binary64 bits) ∙ bits-between lowest highest bits (omega arith) h k
+
+  pub bits-below : bits < lowest → inRange (ofBits binary64 bits) ≡ false
+  bits-below h = range-is (ofBits binary64 bits) ∙ bits-under lowest highest bits (omega arith) h
+
+  pub bits-above : highest < bits → bits < 2 ^ 64 → inRange (ofBits binary64 bits) ≡ false
+  bits-above h w = range-is (ofBits binary64 bits) ∙ bits-over lowest highest bits (omega arith) (omega arith) h w (λ e. omega arith)
 
 -- the product of the first n + 1 fractions, multiplied in order
 unfoldable pub productOf : List ℕ → ℕ → Float

@@ -24,17 +24,26 @@ pub fn sample(tape: &[u64], exp_lambda: f64) -> Answer
     Answer::Refused(Refusal::ThresholdOutside)
 }
 
-// The same with the threshold by its 64 bits, as it travels and is booked. A pattern of NaN is outside the range like any other.
+// The bits of 2^-18.
+const LOWEST: u64 = 0x3ed0_0000_0000_0000;
+
+// The bits of 1.
+const HIGHEST: u64 = 0x3ff0_0000_0000_0000;
+
+// The same with the threshold by its 64 bits, as it travels and is booked. Floats from 0 up stand in the order of their bits, and the bits
+// of an infinity, a NaN or a float with a sign are above those of 1: so the bits are in their range where the float is in its.
 pub fn sample_bits(tape: &[u64], exp_lambda: u64) -> Answer
     ensures { λ r. ⌜ paper r ≡ poisson (ofBits binary64 «exp_lambda») (now (tape .entry)) ⌝ }
 {
     if words::too_long(tape) {
         return Answer::Refused(Refusal::TapeTooLong);
     }
-    if words::is_nan_pattern(exp_lambda) {
-        return Answer::Refused(Refusal::ThresholdOutside);
+    if exp_lambda >= LOWEST {
+        if exp_lambda <= HIGHEST {
+            return knuth_method(tape, f64::from_bits(exp_lambda));
+        }
     }
-    sample(tape, f64::from_bits(exp_lambda))
+    Answer::Refused(Refusal::ThresholdOutside)
 }
 
 // The product starts as the first fraction, and takes another while it is above the threshold; result counts those.

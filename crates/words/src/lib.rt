@@ -1,6 +1,5 @@
 // What every draw shares: a word of the tape by its place, the fraction of a word, the refusals, and a draw's answer.
 ghost use mathlib.Core.Path.{_≡_};
-ghost use lib.Ieee.{binary64, isNan, ofBits};
 ghost use Rattle.words.specs.Words.{fractionOf, tooLong, wordAt};
 ghost use Rattle.words.specs.Paper.{numberOf};
 
@@ -89,11 +88,4 @@ pub fn fraction(w: u64) -> f64
     ensures { λ r. ⌜ r ≡ fractionOf w ⌝ }
 {
     ((w / 2048) as f64) / 9007199254740992.0
-}
-
-// Whether 64 bits are a pattern of NaN. No float may be made of such bits, so it is asked of the pattern.
-pub fn is_nan_pattern(bits: u64) -> bool
-    ensures { λ r. ⌜ r ≡ isNan (ofBits binary64 bits) ⌝ }
-{
-    0x7ff0_0000_0000_0000 < bits % 0x8000_0000_0000_0000
 }

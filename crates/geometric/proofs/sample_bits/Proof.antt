@@ -1,9 +1,15 @@
--- `geometric::sample_bits` meets its contract: a NaN is no probability, and any other pattern is a float. Assumes nothing.
+-- `geometric::sample_bits` meets its contract: up to the bits of 1 it draws, and above them only those of -0.0 are a probability's. Assumes nothing.
 use borrow.Author.Needs.{needs}
-use mathlib.Core.Path.{sym, _∙_}
-use Rattle.words.proofs.Patterns.{float-of-bits, fails-of-pattern}
-use Rattle.geometric.specs.Geometric.{isProbability, geometric}
-use Rattle.geometric.proofs.GeometricLaws.{nan-not-probability}
+use mathlib.Core.Path.{_≡_, sym, ap, _∙_}
+use mathlib.Core.List.{[], _∷_}
+use native.Mathlib.Omega.{arith}
+use lib.Ieee.{binary64, ofBits}
+use Rattle.words.specs.Refusals.{_on_, given}
+use Rattle.words.proofs.Patterns.{float-of-bits}
+use Rattle.words.proofs.Tape.{within-limit}
+use Rattle.words.proofs.Drawing.{ends-same}
+use Rattle.geometric.specs.Geometric.{isTooRare, geometricReading, geometric}
+use Rattle.geometric.proofs.GeometricLaws.{bits-probability, sign-probability, sign-never, sign-not-rare, bits-not-probability}
 use Rattle.geometric.proofs.sample_bits.Statement.{statement}
 use Rattle.geometric.proofs.sample_bits.Tie as tie
 
@@ -14,24 +20,39 @@ returns : tie.Need-returns
 unfolding geometric
 returns c = simp (sym (c .before .too-long .ensures) ∙ c .if1 .taken)
 
-is-nan-pattern-requires : tie.Need-is-nan-pattern-requires
-is-nan-pattern-requires c κs = search needs
+float-from-bits-sample-valid : tie.Need-float-from-bits-sample-valid
+float-from-bits-sample-valid c = float-of-bits (c .before .before .before .before .args .p) (omega arith)
+
+sample-valid-requires : tie.Need-sample-valid-requires
+sample-valid-requires c κs = within-limit _ (sym (c .before .before .too-long .ensures) ∙ c .before .if1 .left)
 
 returns-2 : tie.Need-returns-2
 unfolding geometric
 returns-2 c =
-    let bits = c .before .before .before .before .before .args .p in
-    let e = sym (c .before .is-nan-pattern .ensures) ∙ c .if2 .taken in
-    simp (sym (c .before .before .before .too-long .ensures) ∙ c .before .before .if1 .left, fails-of-pattern isProbability nan-not-probability bits e)
+    let a = c .before .before .before .before .before .args in
+    let p = ofBits binary64 (a .p) in
+    let within = sym (c .before .before .before .too-long .ensures) ∙ c .before .before .if1 .left in
+    c .sample-valid .ensures
+    ∙ simp (within, bits-probability (a .p) (omega arith))
+    (ap (λ o. given (9 on isTooRare p ∷ []) o) (sym (ends-same (geometricReading p (a .tape .now)))))
 
-float-from-bits-sample : tie.Need-float-from-bits-sample
-float-from-bits-sample c = float-of-bits _ (sym (c .before .is-nan-pattern .ensures) ∙ c .if2 .left)
-
-sample-requires : tie.Need-sample-requires
-sample-requires c κs = search needs
+never-requires : tie.Need-never-requires
+never-requires c κs = search needs
 
 returns-3 : tie.Need-returns-3
-returns-3 c = search needs
+unfolding geometric
+returns-3 c =
+    let a = c .before .before .before .before .before .before .args in
+    let within = sym (c .before .before .before .before .too-long .ensures) ∙ c .before .before .before .if1 .left in
+    let z = c .before .if3 .taken in
+    c .never .ensures ∙ simp (within, sign-probability (a .p) z, sign-not-rare (a .p) z, sign-never (a .p) (a .tape .now) z)
+
+returns-4 : tie.Need-returns-4
+unfolding geometric
+returns-4 c =
+    let p = c .before .before .before .before .before .args .p in
+    let within = sym (c .before .before .before .too-long .ensures) ∙ c .before .before .if1 .left in
+    simp (within, bits-not-probability p (omega arith) (omega arith) (λ e. omega arith))
 
 pub sample-bits-spec : {M : Type 1} → statement M
 sample-bits-spec =
@@ -39,8 +60,9 @@ sample-bits-spec =
     (tie.spec
     too-long-requires
     returns
-    is-nan-pattern-requires
+    float-from-bits-sample-valid
+    sample-valid-requires
     returns-2
-    float-from-bits-sample
-    sample-requires
-    returns-3)
+    never-requires
+    returns-3
+    returns-4)

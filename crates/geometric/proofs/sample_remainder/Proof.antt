@@ -2,10 +2,11 @@
 -- Assumes nothing.
 use borrow.Author.Needs.{needs}
 use mathlib.Core.Path.{_≡_, refl, sym, _∙_}
-use Prim.Native.Nat.{_+_, _-_, _%_}
-use native.Mathlib.Nat.{mod-lt, mul-le-mul}
+use Prim.Native.Nat.{_+_, _-_, _%_, _^_}
+use native.Mathlib.Nat.{mul-le-mul}
 use native.Mathlib.Omega.{arith}
 use lib.ListN.{length, drop}
+use lib.Pow.{pow-pos}
 use lib.Ieee.{Float, ofBits, round}
 use Rattle.words.specs.declared.Word.the-variants.{Is}
 use Rattle.words.specs.Words.{wordAt}
@@ -13,14 +14,21 @@ use Rattle.words.specs.Rule.{more, read}
 use Rattle.words.proofs.Tape.{word-there}
 use Rattle.words.proofs.Reading.{read-done, read-at, read-end}
 use Rattle.geometric.specs.Geometric.{searchRule, searching, remainderWord, acceptance}
+use Rattle.geometric.proofs.Spans.{shifted, shifted-most, masked, masked-most}
 use Rattle.geometric.proofs.sample_remainder.Statement.{statement}
 use Rattle.geometric.proofs.sample_remainder.Tie as tie
 
 abbrev Inv-loop : tie.InvT-loop
-Inv-loop tape q span d at i₀ i = (pi : Float) → read (searchRule q span pi) (drop at tape) (more (remainderWord d)) at ≡ read (searchRule q span pi) (drop i tape) (more (remainderWord d)) i
+Inv-loop tape q k d at span mask i₀ i = (pi : Float) → read (searchRule q (2 ^ k) pi) (drop at tape) (more (remainderWord d)) at ≡ read (searchRule q (2 ^ k) pi) (drop i tape) (more (remainderWord d)) i
 
 abbrev μ-loop : tie.MeasureT-loop
-μ-loop tape q span d at i₀ i = length tape - i
+μ-loop tape q k d at span mask i₀ i = length tape - i
+
+shl-span : tie.Need-shl-span Inv-loop μ-loop
+shl-span c = omega arith
+
+sub-mask : tie.Need-sub-mask Inv-loop μ-loop
+sub-mask c = let k = c .before .args .k in rw (shifted k (c .before .pre .0)) (pow-pos k)
 
 loop-holds : tie.Need-loop-holds Inv-loop μ-loop
 loop-holds c pi = refl
@@ -39,14 +47,11 @@ returns c pi =
     let l = c .before .before .before .loop in
     let a = c .before .before .before .before .before .args in
     let e = sym (c .before .before .word-at .ensures) ∙ c .enum-told .given .1 in
-    sym (l .inv pi ∙ read-end (searchRule (a .q) (a .span) pi) (a .tape .now) (l .i) (remainderWord (a .d)) (l .i) e)
+    sym (l .inv pi ∙ read-end (searchRule (a .q) (2 ^ a .k) pi) (a .tape .now) (l .i) (remainderWord (a .d)) (l .i) e)
 
 -- the remainder's word
 first : (c : tie.After-known-told Inv-loop μ-loop) → wordAt (c .before .before .before .before .before .before .args .tape .now) (c .before .before .before .before .loop .i) ≡ Is (c .before .w .given .0 .0)
 first c = sym (c .before .before .before .word-at .ensures) ∙ c .before .w .given .1
-
-rem-m : tie.Need-rem-m Inv-loop μ-loop
-rem-m c = search needs
 
 add-word-at : tie.Need-add-word-at Inv-loop μ-loop
 add-word-at c = let h = word-there _ _ _ (first c) .0 in omega arith
@@ -65,11 +70,11 @@ returns-2 c pi =
     let k = c .before .before .before in
     let l = k .before .before .before .before .loop in
     let a = k .before .before .before .before .before .before .args in
-    let r = searchRule (a .q) (a .span) pi in
+    let r = searchRule (a .q) (2 ^ a .k) pi in
     let w = k .before .w .given .0 .0 in
     let e = sym (c .before .before .word-at2 .ensures) ∙ c .enum-told2 .given .1 in
     sym (l .inv pi ∙ read-at r (a .tape .now) (l .i) w (remainderWord (a .d)) (l .i) (first k)
-    ∙ read-end r (a .tape .now) (l .i + 1) (acceptance (a .d) (w % a .span)) (l .i + 1) e)
+    ∙ read-end r (a .tape .now) (l .i + 1) (acceptance (a .d) (w % 2 ^ a .k)) (l .i + 1) e)
 
 -- the acceptance fraction's word
 second : (c : tie.After-known-told2 Inv-loop μ-loop) → wordAt (c .before .before .before .before .before .before .before .before .before .before .args .tape .now) (c .before .before .before .before .before .before .before .before .loop .i + 1) ≡ Is (c .before .v .given .0 .0)
@@ -88,20 +93,20 @@ power-requires c κs = search needs
 try : (c : tie.After-known-told2 Inv-loop μ-loop) (pi : Float) →
     let l = c .before .before .before .before .before .before .before .before .loop in
     let a = c .before .before .before .before .before .before .before .before .before .before .args in
-    read (searchRule (a .q) (a .span) pi) (drop (a .at) (a .tape .now)) (more (remainderWord (a .d))) (a .at)
-    ≡ read (searchRule (a .q) (a .span) pi) (drop (l .i + 2) (a .tape .now))
-    (searching (a .q) (a .span) pi (acceptance (a .d) (c .before .before .before .before .before .w .given .0 .0 % a .span)) (c .before .v .given .0 .0))
+    read (searchRule (a .q) (2 ^ a .k) pi) (drop (a .at) (a .tape .now)) (more (remainderWord (a .d))) (a .at)
+    ≡ read (searchRule (a .q) (2 ^ a .k) pi) (drop (l .i + 2) (a .tape .now))
+    (searching (a .q) (2 ^ a .k) pi (acceptance (a .d) (c .before .before .before .before .before .w .given .0 .0 % 2 ^ a .k)) (c .before .v .given .0 .0))
     (l .i + 2)
 try c pi =
     let k = c .before .before .before .before in
     let l = k .before .before .before .before .loop in
     let a = k .before .before .before .before .before .before .args in
-    let r = searchRule (a .q) (a .span) pi in
+    let r = searchRule (a .q) (2 ^ a .k) pi in
     let w = k .before .w .given .0 .0 in
     let v = c .before .v .given .0 .0 in
     let two : l .i + 1 + 1 ≡ l .i + 2 = omega arith in
     l .inv pi ∙ read-at r (a .tape .now) (l .i) w (remainderWord (a .d)) (l .i) (first k)
-    ∙ read-at r (a .tape .now) (l .i + 1) v (acceptance (a .d) (w % a .span)) (l .i + 1) (second c)
+    ∙ read-at r (a .tape .now) (l .i + 1) v (acceptance (a .d) (w % 2 ^ a .k)) (l .i + 1) (second c)
     ∙ rw two
 
 loop-less : tie.Need-loop-less Inv-loop μ-loop
@@ -109,24 +114,32 @@ loop-less c = let h = word-there _ _ _ (second (c .before .before .before)) .0 i
 
 loop-again : tie.Need-loop-again Inv-loop μ-loop
 unfolding ofBits round
-loop-again c pi = try (c .before .before .before) pi ∙ simp (← c .before .before .fraction .ensures, ← c .before .power .ensures, c .if1 .left)
+loop-again c pi =
+    let s = c .before .before .before .before .before .before .before .before .before .before .before .before .before in
+    let m = masked (s .args .k) (s .pre .0) (c .before .before .before .before .before .before .before .before .w .given .0 .0) in
+    try (c .before .before .before) pi ∙ simp (← c .before .before .fraction .ensures, ← m, ← c .before .power .ensures, c .if1 .left)
 
 mul-count : tie.Need-mul-count Inv-loop μ-loop
 mul-count c =
-    let p = c .before .before .before .before .before .before .before .before .before .before .before .before .before .pre in
-    omega (arith, mul-le-mul (p .2) (p .1))
+    let s = c .before .before .before .before .before .before .before .before .before .before .before .before .before in
+    omega (arith, mul-le-mul (s .pre .1) (shifted-most (s .args .k) (s .pre .0)))
 
 add-count : tie.Need-add-count Inv-loop μ-loop
 add-count c =
-    let p = c .before .before .before .before .before .before .before .before .before .before .before .before .before .pre in
-    omega (arith, mul-le-mul (p .2) (p .1), mod-lt (c .before .before .before .before .before .before .before .before .w .given .0 .0) (p .0))
+    let s = c .before .before .before .before .before .before .before .before .before .before .before .before .before in
+    let w = c .before .before .before .before .before .before .before .before .w .given .0 .0 in
+    let k = s .args .k in
+    omega (arith, mul-le-mul (s .pre .1) (shifted-most k (s .pre .0)), masked-most k (s .pre .0) w)
 
 returns-3 : tie.Need-returns-3 Inv-loop μ-loop
 unfolding ofBits round
 returns-3 c pi =
-    let a = c .before .before .before .before .before .before .before .before .before .before .before .before .before .args in
+    let s = c .before .before .before .before .before .before .before .before .before .before .before .before .before in
+    let a = s .args in
+    let m = masked (a .k) (s .pre .0) (c .before .before .before .before .before .before .before .before .w .given .0 .0) in
     sym (try (c .before .before .before) pi
-    ∙ simp (← c .before .before .fraction .ensures, ← c .before .power .ensures, c .if1 .taken, read-done (searchRule (a .q) (a .span) pi)))
+    ∙ simp (← c .before .before .fraction .ensures, ← m, ← c .before .power .ensures, c .if1 .taken, read-done (searchRule (a .q) (2 ^ a .k) pi))
+    (rw (shifted (a .k) (s .pre .0))))
 
 pub sample-remainder-spec : {M : Type 1} → statement M
 sample-remainder-spec =
@@ -134,12 +147,13 @@ sample-remainder-spec =
     (tie.spec
     Inv-loop
     μ-loop
+    shl-span
+    sub-mask
     loop-holds
     word-at-requires
     enum-known-w
     enum-told
     returns
-    rem-m
     add-word-at
     word-at-requires-2
     enum-known-v

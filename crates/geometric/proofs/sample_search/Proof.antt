@@ -3,7 +3,7 @@
 use borrow.Author.Needs.{needs}
 use mathlib.Core.Path.{_≡_, refl, sym, _∙_}
 use mathlib.Core.Bool.{cond}
-use Prim.Native.Nat.{_≤_, _<_, _+_, _-_, zero-le}
+use Prim.Native.Nat.{_≤_, _<_, _+_, _-_, _^_, zero-le}
 use native.Mathlib.Omega.{arith}
 use lib.ListN.{length, drop}
 use lib.Ieee.{lt}
@@ -17,10 +17,10 @@ use Rattle.geometric.proofs.sample_search.Statement.{statement}
 use Rattle.geometric.proofs.sample_search.Tie as tie
 
 abbrev Inv-loop : tie.InvT-loop
-Inv-loop tape q span pi d₀ d = (d ≤ length tape) × (reading (searchRule q span pi) tape ≡ read (searchRule q span pi) (drop d tape) (more (firstRun d)) d)
+Inv-loop tape q k pi d₀ d = (d ≤ length tape) × (reading (searchRule q (2 ^ k) pi) tape ≡ read (searchRule q (2 ^ k) pi) (drop d tape) (more (firstRun d)) d)
 
 abbrev μ-loop : tie.MeasureT-loop
-μ-loop tape q span pi d₀ d = length tape - d
+μ-loop tape q k pi d₀ d = length tape - d
 
 loop-holds : tie.Need-loop-holds Inv-loop μ-loop
 loop-holds c = (zero-le, refl)
@@ -38,7 +38,7 @@ returns : tie.Need-returns Inv-loop μ-loop
 returns c =
     let l = c .before .before .before .loop in
     let a = c .before .before .before .before .before .args in
-    sym (l .inv .1 ∙ read-end (searchRule (a .q) (a .span) (a .pi)) (a .tape .now) (l .d) (firstRun (l .d)) (l .d) (sym (c .before .before .word-at .ensures) ∙ c .enum-told .given .1))
+    sym (l .inv .1 ∙ read-end (searchRule (a .q) (2 ^ a .k) (a .pi)) (a .tape .now) (l .d) (firstRun (l .d)) (l .d) (sym (c .before .before .word-at .ensures) ∙ c .enum-told .given .1))
 
 fraction-requires : tie.Need-fraction-requires Inv-loop μ-loop
 fraction-requires c κs = search needs
@@ -54,14 +54,14 @@ below c = word-there _ _ _ (there c) .0
 turn : (c : tie.After-fraction Inv-loop μ-loop) →
     let l = c .before .before .before .before .before .loop in
     let a = c .before .before .before .before .before .before .before .args in
-    let r = searchRule (a .q) (a .span) (a .pi) in
+    let r = searchRule (a .q) (2 ^ a .k) (a .pi) in
     reading r (a .tape .now)
     ≡ read r (drop (l .d + 1) (a .tape .now)) (cond (lt (c .fraction .result) (a .pi)) (more (firstRun (l .d + 1))) (more (remainderWord (l .d)))) (l .d + 1)
 turn c =
     let k = c .before in
     let l = k .before .before .before .before .loop in
     let a = k .before .before .before .before .before .before .args in
-    l .inv .1 ∙ read-at (searchRule (a .q) (a .span) (a .pi)) (a .tape .now) (l .d) (k .before .w .given .0 .0) (firstRun (l .d)) (l .d) (there k)
+    l .inv .1 ∙ read-at (searchRule (a .q) (2 ^ a .k) (a .pi)) (a .tape .now) (l .d) (k .before .w .given .0 .0) (firstRun (l .d)) (l .d) (there k)
     ∙ simp (← c .fraction .ensures)
 
 add-d : tie.Need-add-d Inv-loop μ-loop

@@ -1,111 +1,86 @@
--- `geometric::sample_standard` meets its contract. The loop's invariant: reading on from here, with this many zeros, gives the draw, and
--- every word before was 0, so that the sum fits. Assumes nothing.
+-- `geometric::sample_standard` meets its contract: a first word that isn't 0 ends the draw, and after one that is 0 the draw reads on with
+-- 64 zeros. Assumes nothing.
 use borrow.Author.Needs.{needs}
 use borrow.Author.Tests.{eq-eqb, ne-eqb}
-use mathlib.Core.Path.{_≡_, refl, sym, ap, _∙_}
-use Prim.Native.Nat.{_≤_, _*_, _-_, zero-le}
+use mathlib.Core.Path.{_≡_, sym, ap, _∙_}
+use native.Mathlib.Nat.{zero-add}
 use native.Mathlib.Omega.{arith}
-use lib.ListN.{length, drop}
+use lib.ListN.{drop}
 use lib.Count.{leadingZeros, leading-le, leading-of-zero}
-use Rattle.words.specs.declared.Word.the-variants.{Is}
-use Rattle.words.specs.Words.{mostWords, wordAt}
-use Rattle.words.specs.Rule.{more, read, reading}
-use Rattle.words.proofs.Tape.{within-limit, word-there}
+use Rattle.words.specs.Rule.{read, reading}
+use Rattle.words.proofs.Tape.{within-limit}
 use Rattle.words.proofs.Reading.{read-done, read-at, read-end}
 use Rattle.words.proofs.Drawing.{ends-same}
-use Rattle.geometric.specs.Standard.{standardRule, standardGeometric}
-use Rattle.geometric.proofs.Zeros.{fewer-zeros, all-zeros}
+use Rattle.geometric.specs.Standard.{standardRule, addZeros, standardGeometric}
 use Rattle.geometric.proofs.sample_standard.Statement.{statement}
 use Rattle.geometric.proofs.sample_standard.Tie as tie
 
-abbrev Inv-loop : tie.InvT-loop
-Inv-loop tape result₀ i₀ result i = (i ≤ length tape) × (length tape ≤ mostWords) × (result ≡ 64 * i) × (standardGeometric tape ≡ read standardRule (drop i tape) (more result) i)
-
-abbrev μ-loop : tie.MeasureT-loop
-μ-loop tape result₀ i₀ result i = length tape - i
-
-too-long-requires : tie.Need-too-long-requires Inv-loop μ-loop
+too-long-requires : tie.Need-too-long-requires
 too-long-requires c κs = search needs
 
-returns : tie.Need-returns Inv-loop μ-loop
+returns : tie.Need-returns
 unfolding standardGeometric
 returns c = simp (sym (c .before .too-long .ensures) ∙ c .if1 .taken)
 
-loop-holds : tie.Need-loop-holds Inv-loop μ-loop
+-- a tape that isn't too long is read
+is-read : (c : tie.Else1) → let ws = c .before .before .before .args .tape .now in standardGeometric ws ≡ reading standardRule ws
 unfolding standardGeometric
-loop-holds c =
-    let ws = c .before .before .before .args .tape .now in
-    let e = sym (c .before .too-long .ensures) ∙ c .if1 .left in
-    (zero-le, within-limit ws e, refl, simp e (ends-same (reading standardRule ws)))
+is-read c = simp (sym (c .before .too-long .ensures) ∙ c .if1 .left) (ends-same (reading standardRule (c .before .before .before .args .tape .now)))
 
-word-at-requires : tie.Need-word-at-requires Inv-loop μ-loop
+word-at-requires : tie.Need-word-at-requires
 word-at-requires c κs = search needs
 
-enum-known-w : tie.Need-enum-known-w Inv-loop μ-loop
+enum-known-w : tie.Need-enum-known-w
 enum-known-w c = search needs
 
-enum-told : tie.Need-enum-told Inv-loop μ-loop
+enum-told : tie.Need-enum-told
 enum-told c = search needs
 
-returns-2 : tie.Need-returns-2 Inv-loop μ-loop
+returns-2 : tie.Need-returns-2
 returns-2 c =
-    let l = c .before .before .before .loop in
+    let ws = c .before .before .before .before .before .before .args .tape .now in
+    sym (is-read (c .before .before .before) ∙ read-end standardRule ws 0 0 0 (sym (c .before .before .word-at .ensures) ∙ c .enum-told .given .1))
+
+-- after the first word
+begun : (c : tie.After-known-told) →
     let ws = c .before .before .before .before .before .before .before .args .tape .now in
-    sym (l .inv .3 ∙ read-end standardRule ws (l .i) (l .result) (l .i) (sym (c .before .before .word-at .ensures) ∙ c .enum-told .given .1))
+    standardGeometric ws ≡ read standardRule (drop 1 ws) (addZeros 0 (c .before .w .given .0 .0)) 1
+begun c =
+    let ws = c .before .before .before .before .before .before .before .args .tape .now in
+    is-read (c .before .before .before .before)
+    ∙ read-at standardRule ws 0 (c .before .w .given .0 .0) 0 0 (sym (c .before .before .before .word-at .ensures) ∙ c .before .w .given .1)
 
-cast-x : tie.Need-cast-x Inv-loop μ-loop
-cast-x c = omega (arith, leading-le 64 (c .before .w .given .0 .0))
+sample-after-zero-requires : tie.Need-sample-after-zero-requires
+sample-after-zero-requires c κs =
+    let k = c .before .before .before .before .before in
+    within-limit _ (sym (k .before .too-long .ensures) ∙ k .if1 .left)
 
-add-result : tie.Need-add-result Inv-loop μ-loop
-add-result c = omega (arith, leading-le 64 (c .before .w .given .0 .0))
-
-add-i : tie.Need-add-i Inv-loop μ-loop
-add-i c = omega arith
-
--- the word that a turn reads
-there : (c : tie.After-known-told Inv-loop μ-loop) → wordAt (c .before .before .before .before .before .before .before .before .args .tape .now) (c .before .before .before .before .loop .i) ≡ Is (c .before .w .given .0 .0)
-there c = sym (c .before .before .before .word-at .ensures) ∙ c .before .w .given .1
-
-returns-3 : tie.Need-returns-3 Inv-loop μ-loop
+returns-3 : tie.Need-returns-3
 returns-3 c =
-    let k = c .before in
-    let l = k .before .before .before .before .loop in
-    let w = k .before .w .given .0 .0 in
-    sym (l .inv .3 ∙ read-at standardRule _ (l .i) w (l .result) (l .i) (there k) ∙ simp (ne-eqb w 0 (fewer-zeros w (c .if2 .taken)), read-done standardRule))
-
-loop-less : tie.Need-loop-less Inv-loop μ-loop
-loop-less c = let h = word-there _ _ _ (there (c .before)) .0 in omega arith
-
-loop-again : tie.Need-loop-again Inv-loop μ-loop
-loop-again c =
-    let k = c .before in
-    let l = k .before .before .before .before .loop in
-    let w = k .before .w .given .0 .0 in
-    let z = all-zeros w (c .if2 .left) in
+    let w = c .before .before .before .w .given .0 .0 in
+    let z : w ≡ 0 = omega arith in
     let n : leadingZeros 64 w ≡ 64 = ap (leadingZeros 64) z ∙ leading-of-zero 64 in
-    let h = word-there _ (l .i) w (there k) .0 in (
-      omega arith,
-      l .inv .1,
-      omega arith,
-      l .inv .3 ∙ read-at standardRule _ (l .i) w (l .result) (l .i) (there k) ∙ simp (eq-eqb w 0 z),
-    )
+    c .sample-after-zero .ensures ∙ sym (begun (c .before .before) ∙ simp (eq-eqb w 0 z, n))
+
+cast-count : tie.Need-cast-count
+cast-count c = omega (arith, leading-le 64 (c .before .before .w .given .0 .0))
+
+returns-4 : tie.Need-returns-4
+returns-4 c =
+    let w = c .before .before .w .given .0 .0 in
+    sym (begun (c .before) ∙ simp (ne-eqb w 0 (λ e. omega arith), zero-add, read-done standardRule))
 
 pub sample-standard-spec : {M : Type 1} → statement M
 sample-standard-spec =
     tie.close
     (tie.spec
-    Inv-loop
-    μ-loop
     too-long-requires
     returns
-    loop-holds
     word-at-requires
     enum-known-w
     enum-told
     returns-2
-    cast-x
-    add-result
-    add-i
+    sample-after-zero-requires
     returns-3
-    loop-less
-    loop-again)
+    cast-count
+    returns-4)

@@ -1,12 +1,14 @@
 -- `geometric::sample_valid` meets its contract. Assumes nothing.
 use borrow.Author.Needs.{needs}
-use mathlib.Core.Path.{_≡_, sym, _∙_, subst}
-use mathlib.Core.Bool.{false}
-use Prim.Native.Nat.{ℕ, _^_, _≤_, _<_}
-use lib.Ieee.{ofBits, round}
-use Rattle.geometric.specs.Squares.{squares}
+use mathlib.Core.Path.{_≡_, _∙_}
+use mathlib.Core.Bool.{true, false}
+use lib.Ieee.{binary64, ofBits, round, lt}
+use lib.Ieee.Fits.{sub-fits}
+use Rattle.words.specs.Words.{ratio}
+use Rattle.geometric.specs.Squares.{half, squares}
 use Rattle.geometric.specs.Geometric.{isLarge, qOf, isNever, geometricReading, isTooRare}
-use Rattle.geometric.proofs.Squarings.{span-bounds}
+use Rattle.geometric.proofs.Squarings.{squares-least}
+use Rattle.geometric.proofs.Edge.{mostQ, not-too-rare, too-rare, quarter-left}
 use Rattle.geometric.proofs.sample_valid.Statement.{statement}
 use Rattle.geometric.proofs.sample_valid.Tie as tie
 
@@ -22,44 +24,60 @@ small : (c : tie.Else1) → isLarge (c .before .before .args .p) ≡ false
 unfolding isLarge ofBits round
 small c = c .if1 .left
 
+never-requires : tie.Need-never-requires
+never-requires c κs = search needs
+
 returns-2 : tie.Need-returns-2
 unfolding geometricReading isTooRare isNever qOf ofBits round
-returns-2 c = simp (small (c .before), c .if2 .taken)
-
-square-requires : tie.Need-square-requires
-square-requires c κs = search needs
+returns-2 c = c .never .ensures ∙ simp (small (c .before .before), c .before .if2 .taken)
 
 -- and q is below 1 where that test failed
 often : (c : tie.Else2) → isNever (c .before .before .before .args .p) ≡ false
 unfolding isNever qOf ofBits round
 often c = c .if2 .left
 
--- what `square` gave
-span-is : (c : tie.After-square) → c .square .result .span ≡ 2 ^ squares (qOf (c .before .before .before .before .args .p)) .k
+-- q is above the edge where the third test says so, and then 31 squarings leave it above 0.5
+rare : (c : tie.Then3) → lt half (squares (qOf (c .before .before .before .before .args .p)) .pi) ≡ true
 unfolding qOf ofBits round
-span-is c = c .square .ensures .0
+rare c =
+    let p = c .before .before .before .before .args .p in
+    too-rare (qOf p) (sub-fits binary64 (ratio 1 1) p) (c .if3 .taken)
 
-pi-is : (c : tie.After-square) → c .square .result .pi ≡ squares (qOf (c .before .before .before .before .args .p)) .pi
+returns-3 : tie.Need-returns-3
+unfolding isTooRare
+returns-3 c = simp (small (c .before .before), often (c .before), rare c)
+
+-- else it is in the range of `square`
+in-range : (c : tie.Else3) → let q = qOf (c .before .before .before .before .args .p) in (lt mostQ q ≡ false) × (lt q (ratio 1 4) ≡ false)
+unfolding isLarge qOf ofBits round
+in-range c = (c .if3 .left, quarter-left (c .before .before .before .before .args .p) (small (c .before .before)))
+
+square-requires : tie.Need-square-requires
+unfolding qOf ofBits round
+square-requires c κs = in-range c
+
+-- what `square` gave
+k-is : (c : tie.After-square) → c .square .result .k ≡ squares (qOf (c .before .before .before .before .before .args .p)) .k
+unfolding qOf ofBits round
+k-is c = c .square .ensures .0
+
+pi-is : (c : tie.After-square) → c .square .result .pi ≡ squares (qOf (c .before .before .before .before .before .args .p)) .pi
 unfolding qOf ofBits round
 pi-is c = c .square .ensures .1
 
-returns-3 : tie.Need-returns-3
-unfolding isTooRare ofBits round
-returns-3 c =
-    let k = c .before .before in
-    simp (small (k .before .before), often (k .before), ← pi-is k, c .if3 .taken)
-
 sample-search-requires : tie.Need-sample-search-requires
 sample-search-requires c κs =
-    let k = c .before .before in
-    let b = subst (λ (n : ℕ). (0 < n) × (n ≤ 2 ^ 31)) (sym (span-is k)) (span-bounds (qOf (k .before .before .before .before .args .p))) in
-    (b .0, b .1, k .before .before .before .before .pre)
+    let s = c .before .before .before .before .before in
+    (rw (k-is c) (squares-least (qOf (s .args .p)) .most), s .pre)
 
 returns-4 : tie.Need-returns-4
 unfolding geometricReading isTooRare qOf ofBits round
 returns-4 c =
-    let k = c .before .before .before in
-    c .sample-search .ensures ∙ simp (small (k .before .before), often (k .before), ← pi-is k, ← span-is k, c .before .if3 .left)
+    let k = c .before in
+    let e = k .before in
+    let r = in-range e in
+    let often-enough = not-too-rare (qOf (e .before .before .before .before .args .p)) (r .0) (r .1) in
+    c .sample-search .ensures ∙ simp (small (e .before .before), often (e .before), often-enough, ← pi-is k, ← k-is k)
 
 pub sample-valid-spec : {M : Type 1} → statement M
 sample-valid-spec =
@@ -67,8 +85,9 @@ sample-valid-spec =
     (tie.spec
     sample-trivial-requires
     returns
+    never-requires
     returns-2
-    square-requires
     returns-3
+    square-requires
     sample-search-requires
     returns-4)

@@ -1,9 +1,6 @@
 -- `hypergeometric::next_p` meets its contract: the float steps are the definition's, and neither cast loses anything. Assumes nothing.
 use borrow.Author.Needs.{needs}
-use Prim.Native.Nat.{_+_, _-_, _*_, _^_}
 use native.Mathlib.Omega.{arith}
-use lib.Dec.{le→leb}
-use lib.Ieee.{inFloat}
 use Rattle.hypergeometric.specs.Inversion.{nextP}
 use Rattle.hypergeometric.proofs.Walks.{up≤, down≤}
 use Rattle.hypergeometric.proofs.next_p.Statement.{statement}
@@ -33,22 +30,17 @@ add-down-3 c = search needs
 mul-down : tie.Need-mul-down
 mul-down c = let a = c .args in omega (arith, down≤ (a .n1) (a .n2) (a .k) (a .x) (c .pre .0) (c .pre .2))
 
-int-to-float-result : tie.Need-int-to-float-result
-unfolding inFloat
-int-to-float-result c =
-    let a = c .before .args in
-    le→leb ((a .n1 - a .x) * (a .k - a .x)) (2 ^ 53) (omega (arith, up≤ (a .n1) (a .n2) (a .k) (a .x) (c .before .pre .0) (c .before .pre .2)))
+whole-requires : tie.Need-whole-requires
+whole-requires c κs = let a = c .args in omega (arith, up≤ (a .n1) (a .n2) (a .k) (a .x) (c .pre .0) (c .pre .2))
 
-int-to-float-result-2 : tie.Need-int-to-float-result-2
-unfolding inFloat
-int-to-float-result-2 c =
-    let a = c .before .before .args in
-    let q = c .before .before .pre in
-    le→leb ((a .x + 1) * (a .n2 - a .k + 1 + a .x)) (2 ^ 53) (omega (arith, down≤ (a .n1) (a .n2) (a .k) (a .x) (q .0) (q .2)))
+whole-requires-2 : tie.Need-whole-requires-2
+whole-requires-2 c κs =
+    let a = c .before .args in
+    omega (arith, down≤ (a .n1) (a .n2) (a .k) (a .x) (c .before .pre .0) (c .before .pre .2))
 
 returns : tie.Need-returns
 unfolding nextP
-returns c = search needs
+returns c = simp (c .whole2 .ensures, c .before .whole .ensures)
 
 pub next-p-spec : {M : Type 1} → statement M
 next-p-spec =
@@ -62,6 +54,6 @@ next-p-spec =
     add-down-2
     add-down-3
     mul-down
-    int-to-float-result
-    int-to-float-result-2
+    whole-requires
+    whole-requires-2
     returns)

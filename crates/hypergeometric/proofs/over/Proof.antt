@@ -1,23 +1,20 @@
 -- `hypergeometric::over` meets its contract. Assumes nothing.
+use borrow.Author.Needs.{needs}
 use borrow.Author.Tests.{le-leb, lt-leb}
-use Prim.Native.Nat.{_^_}
-use lib.Dec.{le→leb}
-use lib.Ieee.{inFloat}
 use Rattle.hypergeometric.specs.First.{overIn}
 use Rattle.hypergeometric.proofs.over.Statement.{statement}
 use Rattle.hypergeometric.proofs.over.Tie as tie
 
-int-to-float-result : tie.Need-int-to-float-result
-unfolding inFloat
-int-to-float-result c = le→leb (c .before .before .args .i) (2 ^ 53) (c .before .before .pre)
+whole-requires : tie.Need-whole-requires
+whole-requires c κs = search needs
 
 returns : tie.Need-returns
 unfolding overIn
-returns c = simp (le-leb _ _ (c .before .if1 .taken))
+returns c = simp (le-leb _ _ (c .before .if1 .taken), c .whole .ensures)
 
 returns-2 : tie.Need-returns-2
 unfolding overIn
 returns-2 c = simp (lt-leb _ _ (c .if1 .left))
 
 pub over-spec : {M : Type 1} → statement M
-over-spec = tie.close (tie.spec int-to-float-result returns returns-2)
+over-spec = tie.close (tie.spec whole-requires returns returns-2)

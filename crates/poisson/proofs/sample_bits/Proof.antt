@@ -1,9 +1,13 @@
--- `poisson::sample_bits` meets its contract: a NaN is outside the range, and any other pattern is a float. Assumes nothing.
+-- `poisson::sample_bits` meets its contract: the bits are in their range exactly where the float is. Assumes nothing.
 use borrow.Author.Needs.{needs}
 use mathlib.Core.Path.{sym, _∙_}
-use Rattle.words.proofs.Patterns.{float-of-bits, fails-of-pattern}
-use Rattle.poisson.specs.Poisson.{inRange, poisson}
-use Rattle.poisson.proofs.Laws.{nan-outside}
+use native.Mathlib.Omega.{arith}
+use lib.Ieee.{binary64, ofBits}
+use Rattle.words.specs.Rule.{reading}
+use Rattle.words.proofs.Patterns.{float-of-bits}
+use Rattle.words.proofs.Drawing.{ends-same}
+use Rattle.poisson.specs.Poisson.{knuthRule, poisson}
+use Rattle.poisson.proofs.Laws.{bits-inside, bits-below, bits-above}
 use Rattle.poisson.proofs.sample_bits.Statement.{statement}
 use Rattle.poisson.proofs.sample_bits.Tie as tie
 
@@ -14,24 +18,34 @@ returns : tie.Need-returns
 unfolding poisson
 returns c = simp (sym (c .before .too-long .ensures) ∙ c .if1 .taken)
 
-is-nan-pattern-requires : tie.Need-is-nan-pattern-requires
-is-nan-pattern-requires c κs = search needs
+float-from-bits-knuth-method : tie.Need-float-from-bits-knuth-method
+float-from-bits-knuth-method c = float-of-bits _ (omega arith)
+
+knuth-method-requires : tie.Need-knuth-method-requires
+knuth-method-requires c κs = search needs
 
 returns-2 : tie.Need-returns-2
 unfolding poisson
 returns-2 c =
-    let bits = c .before .before .before .before .before .args .exp-lambda in
-    let e = sym (c .before .is-nan-pattern .ensures) ∙ c .if2 .taken in
-    simp (sym (c .before .before .before .too-long .ensures) ∙ c .before .before .if1 .left, fails-of-pattern inRange nan-outside bits e)
-
-float-from-bits-sample : tie.Need-float-from-bits-sample
-float-from-bits-sample c = float-of-bits _ (sym (c .before .is-nan-pattern .ensures) ∙ c .if2 .left)
-
-sample-requires : tie.Need-sample-requires
-sample-requires c κs = search needs
+    let a = c .before .before .before .before .before .before .args in
+    let within = sym (c .before .before .before .before .too-long .ensures) ∙ c .before .before .before .if1 .left in
+    c .knuth-method .ensures
+    ∙ simp (within, bits-inside (a .exp-lambda) (omega arith) (omega arith))
+    (sym (ends-same (reading (knuthRule (ofBits binary64 (a .exp-lambda))) (a .tape .now))))
 
 returns-3 : tie.Need-returns-3
-returns-3 c = search needs
+unfolding poisson
+returns-3 c =
+    let bits = c .before .before .before .before .before .args .exp-lambda in
+    let within = sym (c .before .before .before .too-long .ensures) ∙ c .before .before .if1 .left in
+    simp (within, bits-above bits (omega arith) (omega arith))
+
+returns-4 : tie.Need-returns-4
+unfolding poisson
+returns-4 c =
+    let bits = c .before .before .before .before .args .exp-lambda in
+    let within = sym (c .before .before .too-long .ensures) ∙ c .before .if1 .left in
+    simp (within, bits-below bits (omega arith))
 
 pub sample-bits-spec : {M : Type 1} → statement M
 sample-bits-spec =
@@ -39,8 +53,8 @@ sample-bits-spec =
     (tie.spec
     too-long-requires
     returns
-    is-nan-pattern-requires
+    float-from-bits-knuth-method
+    knuth-method-requires
     returns-2
-    float-from-bits-sample
-    sample-requires
-    returns-3)
+    returns-3
+    returns-4)
