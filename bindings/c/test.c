@@ -1,0 +1,251 @@
+/*
+ * Every function of include/banlothek.h through C: what each accepts, every refusal that it can give, and that a refusal changes no byte.
+ * `bindings/c/run test` builds and runs it. It writes each expectation that fails, then how many there were; its status is 0 if none
+ * failed.
+ */
+#include "banlothek.h"
+
+int printf(const char *format, ...);
+int memcmp(const void *a, const void *b, size_t n);
+void *memcpy(void *to, const void *from, size_t n);
+void *memset(void *to, int byte, size_t n);
+
+_Static_assert(sizeof(banlothek_answer) == 24, "the struct has 24 bytes");
+_Static_assert(__builtin_offsetof(banlothek_answer, copied) == 4, "copied");
+_Static_assert(__builtin_offsetof(banlothek_answer, serial) == 8, "serial");
+_Static_assert(__builtin_offsetof(banlothek_answer, used) == 12, "used");
+_Static_assert(__builtin_offsetof(banlothek_answer, count) == 16, "count");
+
+#define TOP 0x8000000000000000u
+#define THREE_QUARTERS 0xc000000000000000u
+#define LAST 0xffffffffffffffffu
+/* floats by their bits */
+#define HALF 0x3fe0000000000000u
+#define P_75 0x3fe8000000000000u
+#define ONE 0x3ff0000000000000u
+#define ABOVE_ONE 0x3ff0000000000001u
+#define LEAST_T 0x3ed0000000000000u
+#define BELOW_LEAST_T 0x3ecfffffffffffffu
+#define P_2_32 0x3df0000000000000u
+#define NAN_BITS 0x7ff8000000000000u
+
+enum { TOO_MANY_WORDS = 1048577, MOST_BYTES = 65536 };
+
+static uint64_t long_tape[TOO_MANY_WORDS];
+static uint8_t book[MOST_BYTES + 1], kept[MOST_BYTES + 1];
+static int expectations, failures;
+
+static void fail(const char *what) {
+    failures++;
+    printf("FAIL: %s\n", what);
+}
+
+static void expect(const char *what, banlothek_answer a, uint32_t copied, uint32_t used, uint64_t count) {
+    expectations++;
+    if (a.refusal != 0 || a.copied != copied || a.serial != 0 || a.used != used || a.count != count)
+        fail(what);
+}
+
+static void refused(const char *what, banlothek_answer a, uint32_t number, uint32_t serial) {
+    expectations++;
+    if (a.refusal != number || a.copied != 0 || a.serial != serial || a.used != 0 || a.count != 0)
+        fail(what);
+}
+
+static void same(const char *what, const uint8_t *a, const uint8_t *b, size_t n) {
+    expectations++;
+    if (memcmp(a, b, n))
+        fail(what);
+}
+
+static void keep(void) { memcpy(kept, book, sizeof book); }
+
+/* A refusal over the book, which has to stay as it was kept. */
+static void refused_and_kept(const char *what, banlothek_answer a, uint32_t number) {
+    refused(what, a, number, 0);
+    same(what, kept, book, sizeof book);
+}
+
+/* ---- draws */
+
+static void hypergeometric(void) {
+    const uint64_t zero[] = {0}, top[] = {TOP}, next[] = {TOP + 2048}, last[] = {LAST};
+    expect("(60,24,7)", banlothek_draw_hypergeometric(zero, 1, 60, 24, 7), 0, 1, 0);
+    expect("(50,35,10)", banlothek_draw_hypergeometric(zero, 1, 50, 35, 10), 0, 1, 10);
+    expect("(2,1,1) over 2^63", banlothek_draw_hypergeometric(top, 1, 2, 1, 1), 0, 1, 0);
+    expect("(2,1,1) over 2^63+2048", banlothek_draw_hypergeometric(next, 1, 2, 1, 1), 0, 1, 1);
+    expect("(9,3,4) over 2^64-1", banlothek_draw_hypergeometric(last, 1, 9, 3, 4), 0, 1, 3);
+    expect("(0,0,0)", banlothek_draw_hypergeometric(last, 1, 0, 0, 0), 0, 1, 0);
+    refused("a tape too long", banlothek_draw_hypergeometric(long_tape, TOO_MANY_WORDS, 1, 2, 0), BANLOTHEK_TAPE_TOO_LONG, 0);
+    refused("K > N", banlothek_draw_hypergeometric(zero, 1, 10, 11, 12), BANLOTHEK_PROBABILITY_TOO_LARGE, 0);
+    refused("n > N", banlothek_draw_hypergeometric(zero, 1, 10, 3, 11), BANLOTHEK_SAMPLE_SIZE_TOO_LARGE, 0);
+    refused("N over the cap", banlothek_draw_hypergeometric(zero, 1, 1048577, 3, 3), BANLOTHEK_CAP_EXCEEDED, 0);
+    refused("(98,39,24)", banlothek_draw_hypergeometric(zero, 1, 98, 39, 24), BANLOTHEK_MODE_TOO_HIGH, 0);
+    refused("(1048576,3000,3000)", banlothek_draw_hypergeometric(zero, 1, 1048576, 3000, 3000), BANLOTHEK_POPULATION_TOO_LARGE, 0);
+    refused("no word", banlothek_draw_hypergeometric(zero, 0, 60, 24, 7), BANLOTHEK_EXHAUSTED, 0);
+}
+
+static void poisson(void) {
+    const uint64_t words[] = {THREE_QUARTERS, THREE_QUARTERS, THREE_QUARTERS};
+    expect("T = 0.5", banlothek_draw_poisson(words, 3, HALF), 0, 3, 2);
+    expect("T = 1", banlothek_draw_poisson(words, 3, ONE), 0, 1, 0);
+    refused("T = 2^-18 goes on", banlothek_draw_poisson(words, 3, LEAST_T), BANLOTHEK_EXHAUSTED, 0);
+    refused("T below 2^-18", banlothek_draw_poisson(words, 3, BELOW_LEAST_T), BANLOTHEK_THRESHOLD_OUTSIDE, 0);
+    refused("T above 1", banlothek_draw_poisson(words, 3, ABOVE_ONE), BANLOTHEK_THRESHOLD_OUTSIDE, 0);
+    refused("T is a NaN", banlothek_draw_poisson(words, 3, NAN_BITS), BANLOTHEK_THRESHOLD_OUTSIDE, 0);
+    refused("two words of three", banlothek_draw_poisson(words, 2, HALF), BANLOTHEK_EXHAUSTED, 0);
+    refused("a tape too long", banlothek_draw_poisson(long_tape, TOO_MANY_WORDS, NAN_BITS), BANLOTHEK_TAPE_TOO_LONG, 0);
+}
+
+static void geometric(void) {
+    const uint64_t one_try[] = {TOP, 1, 0}, two_tries[] = {TOP, 1, TOP, 0, TOP}, above[] = {LAST, 0};
+    expect("p = 0.5, one try", banlothek_draw_geometric(one_try, 3, HALF), 0, 3, 1);
+    expect("p = 0.5, two tries", banlothek_draw_geometric(two_tries, 5, HALF), 0, 5, 0);
+    expect("p = 0.75", banlothek_draw_geometric(above, 2, P_75), 0, 2, 1);
+    expect("p = 0", banlothek_draw_geometric(above, 0, 0), 0, 0, LAST);
+    expect("p = -0.0", banlothek_draw_geometric(above, 0, TOP), 0, 0, LAST);
+    refused("p above 1", banlothek_draw_geometric(above, 2, ABOVE_ONE), BANLOTHEK_INVALID_PROBABILITY, 0);
+    refused("p below 0", banlothek_draw_geometric(above, 2, TOP + 1), BANLOTHEK_INVALID_PROBABILITY, 0);
+    refused("p is a NaN", banlothek_draw_geometric(above, 2, NAN_BITS), BANLOTHEK_INVALID_PROBABILITY, 0);
+    refused("p = 2^-32", banlothek_draw_geometric(above, 2, P_2_32), BANLOTHEK_TOO_RARE, 0);
+    refused("the try's fraction is missing", banlothek_draw_geometric(one_try, 2, HALF), BANLOTHEK_EXHAUSTED, 0);
+    refused("a tape too long", banlothek_draw_geometric(long_tape, TOO_MANY_WORDS, NAN_BITS), BANLOTHEK_TAPE_TOO_LONG, 0);
+}
+
+static void standard(void) {
+    const uint64_t words[] = {0, TOP}, one[] = {1};
+    expect("0, 2^63", banlothek_draw_standard_geometric(words, 2), 0, 2, 64);
+    expect("the word 1", banlothek_draw_standard_geometric(one, 1), 0, 1, 63);
+    refused("zeros to the end", banlothek_draw_standard_geometric(words, 1), BANLOTHEK_EXHAUSTED, 0);
+    refused("no word", banlothek_draw_standard_geometric(words, 0), BANLOTHEK_EXHAUSTED, 0);
+    refused("a tape too long", banlothek_draw_standard_geometric(long_tape, TOO_MANY_WORDS), BANLOTHEK_TAPE_TOO_LONG, 0);
+}
+
+/* ---- the book */
+
+/* Seven words: one, three, two and one of them are for serials 1 to 4, none is left. */
+static const uint64_t tape[] = {0, THREE_QUARTERS, THREE_QUARTERS, THREE_QUARTERS, LAST, 0, 1};
+enum { WORDS = 7, ROOM = 48 + 32 + 32 + 24 };
+
+/* One of each kind, which fill a book of ROOM bytes. */
+static void fill(void) {
+    expect("serial 1", banlothek_deliver_hypergeometric(tape, WORDS, book, ROOM, 1, 50, 35, 10), 0, 1, 10);
+    expect("serial 2", banlothek_deliver_poisson(tape, WORDS, book, ROOM, 2, HALF), 0, 3, 2);
+    expect("serial 3", banlothek_deliver_geometric(tape, WORDS, book, ROOM, 3, P_75), 0, 2, 1);
+    expect("serial 4", banlothek_deliver_standard_geometric(tape, WORDS, book, ROOM, 4), 0, 1, 63);
+}
+
+/* A true copy, in a full book and at the tape's end; then the same serials for other requests. */
+static void copies(void) {
+    keep();
+    expect("a copy of 1", banlothek_deliver_hypergeometric(tape, WORDS, book, ROOM, 1, 50, 35, 10), 1, 1, 10);
+    expect("a copy of 2", banlothek_deliver_poisson(tape, WORDS, book, ROOM, 2, HALF), 1, 3, 2);
+    expect("a copy of 3", banlothek_deliver_geometric(tape, WORDS, book, ROOM, 3, P_75), 1, 2, 1);
+    expect("a copy of 4", banlothek_deliver_standard_geometric(tape, WORDS, book, ROOM, 4), 1, 1, 63);
+    same("copies change nothing", kept, book, sizeof book);
+    refused_and_kept("1 with n and K exchanged", banlothek_deliver_hypergeometric(tape, WORDS, book, ROOM, 1, 50, 10, 35),
+                     BANLOTHEK_SERIAL_REUSED);
+    refused_and_kept("2 of another kind", banlothek_deliver_geometric(tape, WORDS, book, ROOM, 2, HALF), BANLOTHEK_SERIAL_REUSED);
+    refused_and_kept("3 of another p", banlothek_deliver_geometric(tape, WORDS, book, ROOM, 3, ONE), BANLOTHEK_SERIAL_REUSED);
+    refused_and_kept("4 of another kind", banlothek_deliver_poisson(tape, WORDS, book, ROOM, 4, HALF), BANLOTHEK_SERIAL_REUSED);
+    refused_and_kept("1 as standard", banlothek_deliver_standard_geometric(tape, WORDS, book, ROOM, 1), BANLOTHEK_SERIAL_REUSED);
+}
+
+static void ahead_and_full(void) {
+    refused_and_kept("serial 0", banlothek_deliver_hypergeometric(tape, WORDS, book, ROOM, 0, 50, 35, 10), BANLOTHEK_SERIAL_AHEAD);
+    refused_and_kept("serial 6", banlothek_deliver_poisson(tape, WORDS, book, ROOM, 6, HALF), BANLOTHEK_SERIAL_AHEAD);
+    refused_and_kept("serial 7", banlothek_deliver_geometric(tape, WORDS, book, ROOM, 7, HALF), BANLOTHEK_SERIAL_AHEAD);
+    refused_and_kept("serial 2^32-1", banlothek_deliver_standard_geometric(tape, WORDS, book, ROOM, 0xffffffff), BANLOTHEK_SERIAL_AHEAD);
+    refused_and_kept("parameters before the room", banlothek_deliver_geometric(tape, WORDS, book, ROOM, 5, NAN_BITS),
+                     BANLOTHEK_INVALID_PROBABILITY);
+    refused_and_kept("full: hypergeometric", banlothek_deliver_hypergeometric(tape, WORDS, book, ROOM + 47, 5, 50, 35, 10),
+                     BANLOTHEK_BOOK_FULL);
+    refused_and_kept("full: Poisson", banlothek_deliver_poisson(tape, WORDS, book, ROOM + 31, 5, HALF), BANLOTHEK_BOOK_FULL);
+    refused_and_kept("full: geometric", banlothek_deliver_geometric(tape, WORDS, book, ROOM + 31, 5, HALF), BANLOTHEK_BOOK_FULL);
+    refused_and_kept("full: standard", banlothek_deliver_standard_geometric(tape, WORDS, book, ROOM + 23, 5), BANLOTHEK_BOOK_FULL);
+    refused_and_kept("no word left", banlothek_deliver_standard_geometric(tape, WORDS, book, ROOM + 24, 5), BANLOTHEK_EXHAUSTED);
+    refused_and_kept("no word left: Poisson", banlothek_deliver_poisson(tape, WORDS, book, ROOM + 32, 5, HALF), BANLOTHEK_EXHAUSTED);
+    refused_and_kept("no word left: geometric", banlothek_deliver_geometric(tape, WORDS, book, ROOM + 32, 5, HALF), BANLOTHEK_EXHAUSTED);
+    refused_and_kept("no word left: a tray", banlothek_deliver_hypergeometric(tape, WORDS, book, ROOM + 48, 5, 50, 35, 10),
+                     BANLOTHEK_EXHAUSTED);
+}
+
+static void parameters(void) {
+    const size_t n = MOST_BYTES;
+    refused_and_kept("delivered K > N", banlothek_deliver_hypergeometric(tape, WORDS, book, n, 5, 10, 11, 12),
+                     BANLOTHEK_PROBABILITY_TOO_LARGE);
+    refused_and_kept("delivered n > N", banlothek_deliver_hypergeometric(tape, WORDS, book, n, 5, 10, 3, 11),
+                     BANLOTHEK_SAMPLE_SIZE_TOO_LARGE);
+    refused_and_kept("delivered N", banlothek_deliver_hypergeometric(tape, WORDS, book, n, 5, 1048577, 3, 3), BANLOTHEK_CAP_EXCEEDED);
+    refused_and_kept("delivered (98,39,24)", banlothek_deliver_hypergeometric(tape, WORDS, book, n, 5, 98, 39, 24),
+                     BANLOTHEK_MODE_TOO_HIGH);
+    refused_and_kept("delivered 3000s", banlothek_deliver_hypergeometric(tape, WORDS, book, n, 5, 1048576, 3000, 3000),
+                     BANLOTHEK_POPULATION_TOO_LARGE);
+    refused_and_kept("delivered T", banlothek_deliver_poisson(tape, WORDS, book, n, 5, ABOVE_ONE), BANLOTHEK_THRESHOLD_OUTSIDE);
+    refused_and_kept("delivered p", banlothek_deliver_geometric(tape, WORDS, book, n, 5, P_2_32), BANLOTHEK_TOO_RARE);
+}
+
+/* Every call over a tape or a book that is too long, and over a book that is damaged. */
+static void limits(const char *what, const uint64_t *words, size_t n, size_t bytes, uint32_t number) {
+    keep();
+    refused_and_kept(what, banlothek_deliver_hypergeometric(words, n, book, bytes, 1, 50, 35, 10), number);
+    refused_and_kept(what, banlothek_deliver_poisson(words, n, book, bytes, 1, HALF), number);
+    refused_and_kept(what, banlothek_deliver_geometric(words, n, book, bytes, 1, HALF), number);
+    refused_and_kept(what, banlothek_deliver_standard_geometric(words, n, book, bytes, 1), number);
+    refused_and_kept(what, banlothek_strike(words, n, book, bytes, 0), number);
+    refused_and_kept(what, banlothek_redraw(words, n, book, bytes), number);
+}
+
+static void redraw_and_strike(void) {
+    uint8_t zeros[ROOM] = {0};
+    expect("all agree", banlothek_redraw(tape, WORDS, book, ROOM), 0, 0, 4);
+    book[48 + 16]++; /* the count of serial 2 */
+    keep();
+    refused("serial 2 differs", banlothek_redraw(tape, WORDS, book, ROOM), BANLOTHEK_REDRAW_DIFFERS, 2);
+    same("a redraw changes nothing", kept, book, sizeof book);
+    book[48 + 16]--;
+    keep();
+    refused_and_kept("a strike of 5", banlothek_strike(tape, WORDS, book, ROOM, 5), BANLOTHEK_STRIKE_TOO_MANY);
+    expect("a strike of 0", banlothek_strike(tape, WORDS, book, ROOM, 0), 0, 0, 4);
+    expect("a strike of 2", banlothek_strike(tape, WORDS, book, ROOM, 2), 0, 0, 2);
+    same("a strike changes no other byte", kept, book, 80);
+    same("a strike zeroes its entries", zeros, book + 80, ROOM - 80);
+    refused("serial 4 is ahead", banlothek_deliver_standard_geometric(tape, WORDS, book, ROOM, 4), BANLOTHEK_SERIAL_AHEAD, 0);
+    expect("3 is fresh again", banlothek_deliver_geometric(tape, WORDS, book, ROOM, 3, P_75), 0, 2, 1);
+    expect("4 is fresh again", banlothek_deliver_standard_geometric(tape, WORDS, book, ROOM, 4), 0, 1, 63);
+    same("the book is what it was", kept, book, sizeof book);
+    expect("a strike of all", banlothek_strike(tape, WORDS, book, ROOM, 4), 0, 0, 0);
+    same("an empty book is all zeros", zeros, book, ROOM);
+    expect("an empty book agrees", banlothek_redraw(tape, WORDS, book, ROOM), 0, 0, 0);
+}
+
+/* 01's book of 24 bytes, after one standard draw over the word 1. */
+static void worked(void) {
+    const uint8_t bytes[24] = {0x18, 0, 4, 0, 1, 0, 0, 0, 0, 0, 0, 0, 1, 0, 0, 0, 0x3f};
+    const uint64_t one[] = {1};
+    memset(book, 0, sizeof book);
+    expect("the worked draw", banlothek_deliver_standard_geometric(one, 1, book, 24, 1), 0, 1, 63);
+    same("the worked book", bytes, book, 24);
+    refused("a book of no byte is full", banlothek_deliver_standard_geometric(one, 1, book, 0, 1), BANLOTHEK_BOOK_FULL, 0);
+}
+
+int main(void) {
+    hypergeometric();
+    poisson();
+    geometric();
+    standard();
+    fill();
+    copies();
+    ahead_and_full();
+    parameters();
+    limits("a tape of 1,048,577 words", long_tape, TOO_MANY_WORDS, ROOM, BANLOTHEK_TAPE_TOO_LONG);
+    limits("a book of 65,537 bytes", tape, WORDS, MOST_BYTES + 1, BANLOTHEK_BOOK_TOO_LONG);
+    limits("a tape shorter than its book", tape, WORDS - 1, ROOM, BANLOTHEK_BOOK_DAMAGED);
+    book[ROOM] = 1;
+    limits("a byte after the end", tape, WORDS, ROOM + 24, BANLOTHEK_BOOK_DAMAGED);
+    book[ROOM] = 0;
+    redraw_and_strike();
+    worked();
+    printf("%d of %d expectations hold\n", expectations - failures, expectations);
+    return failures != 0;
+}

@@ -1,0 +1,42 @@
+-- The fields of the struct that a caller in C gets, by what the call comes to (01, 'Refusal numbers'). Assumes nothing.
+use Prim.Native.Nat.{ℕ}
+use mathlib.Core.Path.{_≡_}
+use mathlib.Core.List.{List}
+use mathlib.Core.Option.{Option·getD}
+use Rattle.words.specs.Outcome.{Outcome, drawn, refused}
+use Rattle.book.specs.Calls.{Call}
+use Rattle.book.specs.Deliver.{Booking, fresh, copy}
+use Rattle.book.specs.Redraw.{Redrawing}
+use Rattle.banlothek.specs.declared.BanlothekAnswer.{BanlothekAnswer}
+
+-- a call that is accepted: refusal 0, and no serial
+abbrev pub accepted : ℕ → ℕ → ℕ → BanlothekAnswer
+accepted copied used count = record { refusal = 0; copied = copied; serial = 0; used = used; count = count }
+
+-- a refusal by its number, and the serial that it names: count 0, and 0 words used
+abbrev pub refusedBy : ℕ → ℕ → BanlothekAnswer
+refusedBy number serial = record { refusal = number; copied = 0; serial = serial; used = 0; count = 0 }
+
+-- a count and the words used, or a refusal: of a draw; of a strike, whose count is the entries left
+abbrev pub plain : Outcome ℕ → BanlothekAnswer
+plain (drawn c u) = accepted 0 u c
+plain (refused n) = refusedBy n 0
+
+-- a delivery's; a copy is marked
+abbrev pub ofDelivery : Outcome Booking → BanlothekAnswer
+ofDelivery (drawn (fresh c) u) = accepted 0 u c
+ofDelivery (drawn (copy c) u) = accepted 1 u c
+ofDelivery (refused n) = refusedBy n 0
+
+-- a redraw's: the entries where all agree; 17 names its serial, and nothing else names one
+abbrev pub naming : Outcome ℕ → ℕ → BanlothekAnswer
+naming (drawn c u) s = accepted 0 u c
+naming (refused n) s = refusedBy n s
+
+abbrev pub ofRedraw : Redrawing → BanlothekAnswer
+ofRedraw r = naming (r .outcome) (Option·getD (r .named) 0)
+
+-- a call that may write does what its rule says: the struct has what the call comes to, and the book is as the rule leaves it
+pub record Meets {A : Type 0} (fields : Outcome A → BanlothekAnswer) (c : Call A) (r : BanlothekAnswer) (book : List ℕ) : Type 0 where
+  pub answers : r ≡ fields (c .outcome)
+  pub leaves : book ≡ c .book

@@ -1,0 +1,197 @@
+// The face for C: each draw and each call on a book as a function that C can call, with one struct for every answer. include/banlothek.h
+// declares them, and says what a caller in C owes.
+use book::Delivered;
+use book::Redrawn;
+use book::Struck;
+use draws::Request;
+use words::Answer;
+use words::Refusal;
+use words::number;
+ghost use mathlib.Core.Path.{_≡_};
+ghost use Prim.Native.Nat.{_<_, _^_};
+ghost use Rattle.words.specs.Outcome.{usedOf};
+ghost use Rattle.words.specs.Paper.{numberOf, paper};
+ghost use Rattle.draws.specs.declared.Request.the-variants.{Hypergeometric, Poisson, Geometric, StandardGeometric};
+ghost use Rattle.draws.specs.Request.{drawOf};
+ghost use Rattle.book.specs.Deliver as deliveries;
+ghost use Rattle.book.specs.Strike as strikes;
+ghost use Rattle.book.specs.Redraw as redraws;
+ghost use Rattle.banlothek.specs.Face.{Meets, accepted, refusedBy, plain, ofDelivery, ofRedraw};
+
+// What every function answers. The header's `banlothek_answer` has these fields in this order.
+#[repr(C)]
+pub struct BanlothekAnswer {
+    pub refusal: u32,
+    pub copied: u32,
+    pub serial: u32,
+    pub used: u32,
+    pub count: u64,
+}
+
+// ---- the struct
+
+fn accept(copied: u32, used: usize, count: u64) -> BanlothekAnswer
+    requires { ⌜ used < 2 ^ 32 ⌝ }
+    ensures { λ r. ⌜ r ≡ accepted copied used count ⌝ }
+{
+    BanlothekAnswer {
+        refusal: 0,
+        copied,
+        serial: 0,
+        used: used as u32,
+        count,
+    }
+}
+
+fn refuse(refusal: Refusal, serial: u32) -> BanlothekAnswer
+    ensures { λ r. ⌜ r ≡ refusedBy (numberOf refusal) serial ⌝ }
+{
+    BanlothekAnswer {
+        refusal: number(refusal),
+        copied: 0,
+        serial,
+        used: 0,
+        count: 0,
+    }
+}
+
+// ---- draws, each by its own kind's function: a caller that asks for one kind need not pay for a choice among four
+
+// A draw's answer.
+fn told(answer: Answer) -> BanlothekAnswer
+    requires { ⌜ usedOf (paper answer) < 2 ^ 32 ⌝ }
+    ensures { λ r. ⌜ r ≡ plain (paper answer) ⌝ }
+{
+    match answer {
+        Answer::Drawn { count, used } => accept(0, used, count),
+        Answer::Refused(refusal) => refuse(refusal, 0),
+    }
+}
+
+#[no_mangle]
+pub extern "C" fn banlothek_draw_hypergeometric(
+    tape: &[u64],
+    total: u64,
+    marked: u64,
+    sample: u64,
+) -> BanlothekAnswer
+    ensures { λ r. ⌜ r ≡ plain (drawOf (Hypergeometric total marked sample) (now (tape .entry))) ⌝ }
+{
+    told(hypergeometric::sample(tape, total, marked, sample))
+}
+
+#[no_mangle]
+pub extern "C" fn banlothek_draw_poisson(tape: &[u64], threshold_bits: u64) -> BanlothekAnswer
+    ensures { λ r. ⌜ r ≡ plain (drawOf (Poisson «threshold_bits») (now (tape .entry))) ⌝ }
+{
+    told(poisson::sample_bits(tape, threshold_bits))
+}
+
+#[no_mangle]
+pub extern "C" fn banlothek_draw_geometric(tape: &[u64], p_bits: u64) -> BanlothekAnswer
+    ensures { λ r. ⌜ r ≡ plain (drawOf (Geometric «p_bits») (now (tape .entry))) ⌝ }
+{
+    told(geometric::sample_bits(tape, p_bits))
+}
+
+#[no_mangle]
+pub extern "C" fn banlothek_draw_standard_geometric(tape: &[u64]) -> BanlothekAnswer
+    ensures { λ r. ⌜ r ≡ plain (drawOf StandardGeometric (now (tape .entry))) ⌝ }
+{
+    told(geometric::sample_standard(tape))
+}
+
+// ---- the book
+
+fn tray(total: u64, marked: u64, sample: u64) -> Request
+    ensures { λ r. ⌜ r ≡ Hypergeometric total marked sample ⌝ }
+{
+    Request::Hypergeometric {
+        total,
+        marked,
+        sample,
+    }
+}
+
+fn deliver(tape: &[u64], book: &mut [u8], serial: u32, request: Request) -> BanlothekAnswer
+    ensures { λ r. ⌜ Meets ofDelivery (deliveries.deliver (now (tape .entry)) (now (book .entry)) serial request) r (now (book .exit)) ⌝ }
+{
+    match book::deliver(tape, book, serial, request) {
+        Delivered::Fresh { count, used } => accept(0, used, count),
+        Delivered::Copy { count, used } => accept(1, used, count),
+        Delivered::Refused(refusal) => refuse(refusal, 0),
+    }
+}
+
+#[no_mangle]
+pub extern "C" fn banlothek_deliver_hypergeometric(
+    tape: &[u64],
+    book: &mut [u8],
+    serial: u32,
+    total: u64,
+    marked: u64,
+    sample: u64,
+) -> BanlothekAnswer
+    ensures { λ r. ⌜ Meets ofDelivery (deliveries.deliver (now (tape .entry)) (now (book .entry)) serial (Hypergeometric total marked sample)) r (now (book .exit)) ⌝ }
+{
+    deliver(tape, book, serial, tray(total, marked, sample))
+}
+
+#[no_mangle]
+pub extern "C" fn banlothek_deliver_poisson(
+    tape: &[u64],
+    book: &mut [u8],
+    serial: u32,
+    threshold_bits: u64,
+) -> BanlothekAnswer
+    ensures { λ r. ⌜ Meets ofDelivery (deliveries.deliver (now (tape .entry)) (now (book .entry)) serial (Poisson «threshold_bits»)) r (now (book .exit)) ⌝ }
+{
+    let request = Request::Poisson {
+        threshold: threshold_bits,
+    };
+    deliver(tape, book, serial, request)
+}
+
+#[no_mangle]
+pub extern "C" fn banlothek_deliver_geometric(
+    tape: &[u64],
+    book: &mut [u8],
+    serial: u32,
+    p_bits: u64,
+) -> BanlothekAnswer
+    ensures { λ r. ⌜ Meets ofDelivery (deliveries.deliver (now (tape .entry)) (now (book .entry)) serial (Geometric «p_bits»)) r (now (book .exit)) ⌝ }
+{
+    deliver(tape, book, serial, Request::Geometric { p: p_bits })
+}
+
+#[no_mangle]
+pub extern "C" fn banlothek_deliver_standard_geometric(
+    tape: &[u64],
+    book: &mut [u8],
+    serial: u32,
+) -> BanlothekAnswer
+    ensures { λ r. ⌜ Meets ofDelivery (deliveries.deliver (now (tape .entry)) (now (book .entry)) serial StandardGeometric) r (now (book .exit)) ⌝ }
+{
+    deliver(tape, book, serial, Request::StandardGeometric)
+}
+
+#[no_mangle]
+pub extern "C" fn banlothek_strike(tape: &[u64], book: &mut [u8], j: u64) -> BanlothekAnswer
+    ensures { λ r. ⌜ Meets plain (strikes.strike (now (tape .entry)) (now (book .entry)) j) r (now (book .exit)) ⌝ }
+{
+    match book::strike(tape, book, j) {
+        Struck::Left { entries } => accept(0, 0, entries),
+        Struck::Refused(refusal) => refuse(refusal, 0),
+    }
+}
+
+#[no_mangle]
+pub extern "C" fn banlothek_redraw(tape: &[u64], book: &[u8]) -> BanlothekAnswer
+    ensures { λ r. ⌜ r ≡ ofRedraw (redraws.redraw (now (tape .entry)) (now (book .entry))) ⌝ }
+{
+    match book::redraw(tape, book) {
+        Redrawn::Agrees { entries } => accept(0, 0, entries),
+        Redrawn::Differs { serial } => refuse(Refusal::RedrawDiffers, serial as u32),
+        Redrawn::Refused(refusal) => refuse(refusal, 0),
+    }
+}
