@@ -1,0 +1,17 @@
+-- `judge::by_refusal` meets its contract: two refusals have an entry, and no other. Assumes nothing.
+use mathlib.Core.Path.{sym}
+use Rattle.judge.proofs.Numbers.{refusal-none}
+use Rattle.judge.proofs.by_refusal.Statement.{statement}
+use Rattle.judge.proofs.by_refusal.Tie as tie
+
+returns : tie.Need-returns
+returns c = rw (c .match .keys1)
+
+returns-2 : tie.Need-returns-2
+returns-2 c = rw (c .match .keys2)
+
+returns-3 : tie.Need-returns-3
+returns-3 c = let r = c .match .rest in sym (refusal-none (c .before .args .refusal) (r .0 .1) (r .1))
+
+pub by-refusal-spec : {M : Type 1} → statement M
+by-refusal-spec = tie.close (tie.spec returns returns-2 returns-3)

@@ -1,0 +1,158 @@
+// Whether a draw here is what the Rust drew over the same words, and where it isn't, which entry of docs/DIFFERENCES.md says so.
+use draws::Request;
+use words::Answer;
+use words::number;
+ghost use mathlib.Core.Path.{_≡_};
+ghost use mathlib.Core.Bool.{not, _&&_};
+ghost use lib.Dec.{leb};
+ghost use Rattle.words.specs.Paper.{paper};
+ghost use Rattle.hypergeometric.specs.Reduction.{least, most};
+ghost use Rattle.judge.specs.Judging.{rustDid, same, isOutside, byRefusal, apart, judged, asMarked};
+ghost use Rattle.judge.specs.Judging as rules;
+
+// What the Rust did: it drew, or stopped where a draw here is refused by this number.
+pub enum Said {
+    Drew { count: u64, used: usize },
+    Stopped { number: u32 },
+}
+
+// What comes of comparing: the same answer, another one that an entry of docs/DIFFERENCES.md lists, or another that none does.
+pub enum Verdict {
+    Agrees,
+    Listed { entry: u64 },
+    Differs,
+}
+
+// What a case says that the Rust did, by its number; oracle/README.md has the numbers.
+pub fn rust_did(act: u64, count: u64, used: usize) -> Said
+    ensures { λ r. ⌜ rules.said r ≡ rustDid act count used ⌝ }
+{
+    match act {
+        0 => Said::Drew { count, used },
+        1 => Said::Stopped { number: 10 },
+        2 => Said::Stopped { number: 3 },
+        3 => Said::Stopped { number: 4 },
+        4 => Said::Stopped { number: 2 },
+        5 => Said::Stopped { number: 8 },
+        6 => Said::Stopped { number: 6 },
+        7 => Said::Stopped { number: 9 },
+        _ => Said::Stopped { number: 0 },
+    }
+}
+
+// Compares a draw here with the Rust's.
+pub fn judge(request: Request, here: Answer, rust: Said) -> Verdict
+    ensures { λ r. ⌜ r ≡ judged request (paper here) (rules.said rust) ⌝ }
+{
+    if is_same(here, rust) {
+        Verdict::Agrees
+    } else {
+        set_apart(request, here, rust)
+    }
+}
+
+// Holds a verdict against the entry that the case names.
+pub fn as_marked(entry: u64, verdict: Verdict) -> Verdict
+    ensures { λ r. ⌜ r ≡ asMarked entry verdict ⌝ }
+{
+    match verdict {
+        Verdict::Agrees => {
+            if entry == 0 {
+                Verdict::Agrees
+            } else {
+                Verdict::Differs
+            }
+        }
+        Verdict::Listed { entry: found } => {
+            if entry == found {
+                Verdict::Listed { entry: found }
+            } else {
+                Verdict::Differs
+            }
+        }
+        Verdict::Differs => Verdict::Differs,
+    }
+}
+
+fn is_same(here: Answer, rust: Said) -> bool
+    ensures { λ r. ⌜ r ≡ same (paper here) (rules.said rust) ⌝ }
+{
+    match here {
+        Answer::Drawn { count, used } => match rust {
+            Said::Drew {
+                count: drawn,
+                used: read,
+            } => count == drawn && used == read,
+            Said::Stopped { number: _ } => false,
+        },
+        Answer::Refused(refusal) => match rust {
+            Said::Drew { count: _, used: _ } => false,
+            Said::Stopped { number: stopped } => number(refusal) == stopped,
+        },
+    }
+}
+
+// Which entry lists answers that aren't the same.
+fn set_apart(request: Request, here: Answer, rust: Said) -> Verdict
+    ensures { λ r. ⌜ r ≡ apart request (paper here) (rules.said rust) ⌝ }
+{
+    match here {
+        Answer::Refused(refusal) => by_refusal(number(refusal)),
+        Answer::Drawn { count: _, used } => match rust {
+            Said::Stopped { number: _ } => Verdict::Differs,
+            Said::Drew {
+                count: drawn,
+                used: read,
+            } => {
+                if is_outside(request, drawn) && used == read {
+                    Verdict::Listed { entry: 1 }
+                } else {
+                    Verdict::Differs
+                }
+            }
+        },
+    }
+}
+
+// The refusals that the Rust doesn't have.
+fn by_refusal(refusal: u32) -> Verdict
+    ensures { λ r. ⌜ r ≡ byRefusal refusal ⌝ }
+{
+    match refusal {
+        7 => Verdict::Listed { entry: 5 },
+        5 => Verdict::Listed { entry: 9 },
+        _ => Verdict::Differs,
+    }
+}
+
+// Whether the Rust's count is one that the tray can't have.
+fn is_outside(request: Request, count: u64) -> bool
+    ensures { λ r. ⌜ r ≡ isOutside request count ⌝ }
+{
+    match request {
+        Request::Hypergeometric {
+            total,
+            marked,
+            sample,
+        } => outside_support(total, marked, sample, count),
+        Request::Poisson { threshold: _ } => false,
+        Request::Geometric { p: _ } => false,
+        Request::StandardGeometric => false,
+    }
+}
+
+// Neither more than the sample or the marked, nor so few that the sample would have more unmarked than there are.
+fn outside_support(total: u64, marked: u64, sample: u64, count: u64) -> bool
+    ensures { λ r. ⌜ r ≡ not (leb (least total marked sample) count && leb count (most marked sample)) ⌝ }
+{
+    if count > sample {
+        return true;
+    }
+    if count > marked {
+        return true;
+    }
+    if marked > total {
+        return true;
+    }
+    sample - count > total - marked
+}
