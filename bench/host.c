@@ -7,6 +7,7 @@
  *   host book ENTRIES BYTES           writes such a book
  *   host rust kept TIMES              TIMES draws from one set-up
  *   host case TIMES                   writes the case for the program `kept`, of the same draws
+ *   host times ROW LABEL              times a row on both sides, and writes the ratio as a line of a table
  */
 #include "banlothek.h"
 
@@ -16,6 +17,10 @@ long write(int file, const void *bytes, size_t n);
 long atol(const char *digits);
 int strcmp(const char *a, const char *b);
 void *memcpy(void *to, const void *from, size_t n);
+struct moment {
+    long seconds, nanoseconds;
+};
+int clock_gettime(int clock, struct moment *now);
 
 /* The Rust, by bench/rust.rs, and a function that does nothing, by bench/none.c: with the signatures of the header. */
 banlothek_answer rust_draw_hypergeometric(const uint64_t *tape, size_t words, uint64_t N, uint64_t K, uint64_t n);
@@ -59,7 +64,10 @@ struct row {
     double x;
 };
 
-/* Thresholds are e^-lambda. The kind 5 is Poisson::new and a draw, for the Rust alone: x is lambda. */
+/* No kind of a request: Poisson::new and a draw, for the Rust alone, where x is lambda. */
+enum { NEW_POISSON = 1000 };
+
+/* Thresholds are e^-lambda. */
 static const struct row rows[] = {
     {"tray-60", 1, 60, 24, 7, 0},
     {"tray-1000", 1, 1000, 60, 40, 0},
@@ -68,9 +76,9 @@ static const struct row rows[] = {
     {"lambda-0.25", 2, 0, 0, 0, 0.7788007830714049},
     {"lambda-4", 2, 0, 0, 0, 0.01831563888873418},
     {"lambda-11", 2, 0, 0, 0, 1.670170079024566e-05},
-    {"new-0.25", 5, 0, 0, 0, 0.25},
-    {"new-4", 5, 0, 0, 0, 4},
-    {"new-11", 5, 0, 0, 0, 11},
+    {"new-0.25", NEW_POISSON, 0, 0, 0, 0.25},
+    {"new-4", NEW_POISSON, 0, 0, 0, 4},
+    {"new-11", NEW_POISSON, 0, 0, 0, 11},
     {"p-0.75", 3, 0, 0, 0, 0.75},
     {"p-0.3", 3, 0, 0, 0, 0.3},
     {"p-0.01", 3, 0, 0, 0, 0.01},
@@ -99,10 +107,10 @@ static banlothek_answer draw_rust(const struct row *r, const uint64_t *words, si
         return rust_draw_poisson(words, n, bits(r->x));
     case 3:
         return rust_draw_geometric(words, n, bits(r->x));
-    case 4:
-        return rust_draw_standard_geometric(words, n);
-    default:
+    case NEW_POISSON:
         return rust_new_poisson(words, n, bits(r->x));
+    default:
+        return rust_draw_standard_geometric(words, n);
     }
 }
 
@@ -130,6 +138,36 @@ static void fill_kept(long times) {
     const uint64_t head[4] = {60, 24, 7, (uint64_t)times};
     memcpy(kept, head, sizeof head);
     memcpy(kept + 4, tape, sizeof kept - sizeof head);
+}
+
+/* ---- times */
+
+enum { MONOTONIC = 1, TURNS = 31 };
+static const double LONG_ENOUGH = 0.002;
+
+static double seconds_of(const struct row *r, enum side side, long times) {
+    struct moment from, to;
+    clock_gettime(MONOTONIC, &from);
+    volatile uint64_t sum = draw_many(r, side, times);
+    (void)sum;
+    clock_gettime(MONOTONIC, &to);
+    return (double)(to.seconds - from.seconds) + (double)(to.nanoseconds - from.nanoseconds) / 1e9;
+}
+
+/* The sides take turns, so that whatever slows the machine down slows all of them; the least time of a side is the one that nothing slowed. */
+static int tell_times(const struct row *r, const char *label) {
+    long times = 1;
+    while (seconds_of(r, HERE, times) < LONG_ENOUGH)
+        times *= 2;
+    double least[3] = {0, 0, 0};
+    for (int turn = 0; turn < TURNS; turn++)
+        for (enum side side = HERE; side <= NONE; side++) {
+            double took = seconds_of(r, side, times);
+            if (turn == 0 || took < least[side])
+                least[side] = took;
+        }
+    printf("| %s | %.2f |\n", label, (least[HERE] - least[NONE]) / (least[RUST] - least[NONE]));
+    return 0;
 }
 
 /* ---- calls over a book */
@@ -183,6 +221,13 @@ static uint64_t call_many(char name, enum side side, long times, uint32_t entrie
 
 static enum side side_of(const char *name) { return !strcmp(name, "rust") ? RUST : !strcmp(name, "none") ? NONE : HERE; }
 
+static const struct row *row_of(const char *name) {
+    for (size_t i = 0; i < sizeof rows / sizeof *rows; i++)
+        if (!strcmp(name, rows[i].name))
+            return &rows[i];
+    return 0;
+}
+
 static int tell(uint64_t sum) {
     printf("%llu\n", (unsigned long long)sum);
     return 0;
@@ -204,8 +249,10 @@ int main(int argc, char **argv) {
         fill_kept(atol(argv[3]));
         return tell(rust_kept(kept, 4 + KEPT_WORDS));
     }
-    for (size_t i = 0; i < sizeof rows / sizeof *rows; i++)
-        if (!strcmp(argv[2], rows[i].name))
-            return tell(draw_many(&rows[i], side_of(argv[1]), atol(argv[3])));
-    return 2;
+    const struct row *r = row_of(argv[2]);
+    if (!r)
+        return 2;
+    if (!strcmp(argv[1], "times"))
+        return tell_times(r, argv[3]);
+    return tell(draw_many(r, side_of(argv[1]), atol(argv[3])));
 }
