@@ -107,10 +107,10 @@ static banlothek_answer draw_rust(const struct row *r, const uint64_t *words, si
         return rust_draw_poisson(words, n, bits(r->x));
     case 3:
         return rust_draw_geometric(words, n, bits(r->x));
-    case NEW_POISSON:
-        return rust_new_poisson(words, n, bits(r->x));
-    default:
+    case 4:
         return rust_draw_standard_geometric(words, n);
+    default:
+        return rust_new_poisson(words, n, bits(r->x));
     }
 }
 

@@ -4,17 +4,18 @@ use lib.Count.{leadingZeros}
 use lib.Ieee.{round, lt, le, eq, sub, mul, div, ofInt, ofBits, toBits}
 use Rattle.words.specs.Words.{tooLong, fractionOf}
 use Rattle.words.specs.Rule.{read}
-use Rattle.poisson.specs.Poisson.{inRange}
+use Rattle.words.specs.Draw.{endings, draw}
+use Rattle.poisson.specs.Poisson.{inRange, poisson}
 use Rattle.geometric.specs.Power.{halved, powerOf}
 use Rattle.geometric.specs.Squares.{squaring, squares}
-use Rattle.geometric.specs.Geometric.{isProbability, isLarge, qOf, isNever, isTooRare, geometricReading}
+use Rattle.geometric.specs.Geometric.{isProbability, isLarge, qOf, isNever, isTooRare, geometricReading, geometric}
+use Rattle.geometric.specs.Standard.{standardGeometric}
 use Rattle.hypergeometric.specs.Reduction.{byMarked, bySample, reduction}
 use Rattle.hypergeometric.specs.First.{timesIn, overIn, atFactor, factors, fractionOfFactorials, firstProbability}
 use Rattle.hypergeometric.specs.Inversion.{nextP, walk, inverted}
-use Rattle.hypergeometric.specs.Hypergeometric.{setUp, isTaken, zeroOrNotFinite, trayRefusals, counted}
-use Rattle.draws.specs.Request.{parameterRefusals, readingOf, drawOf}
+use Rattle.hypergeometric.specs.Hypergeometric.{setUp, isTaken, zeroOrNotFinite, trayRefusals, counted, hypergeometric}
 use Rattle.draws.specs.Table.{Table}
 
 pub rows : Table
-unfolding drawOf parameterRefusals readingOf round lt le eq sub mul div ofInt ofBits toBits leadingZeros tooLong fractionOf read inRange halved powerOf squaring squares isProbability isLarge qOf isNever isTooRare geometricReading byMarked bySample reduction timesIn overIn atFactor factors fractionOfFactorials firstProbability nextP walk inverted setUp isTaken zeroOrNotFinite trayRefusals counted
+unfolding draw endings poisson geometric standardGeometric hypergeometric round lt le eq sub mul div ofInt ofBits toBits leadingZeros tooLong fractionOf read inRange halved powerOf squaring squares isProbability isLarge qOf isNever isTooRare geometricReading byMarked bySample reduction timesIn overIn atFactor factors fractionOfFactorials firstProbability nextP walk inverted setUp isTaken zeroOrNotFinite trayRefusals counted
 rows = refl

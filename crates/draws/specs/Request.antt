@@ -1,32 +1,40 @@
--- One request of any kind (01, 'The book', the table of kinds), and the draw of it. Assumes nothing.
+-- The draw of one request of any kind (01, 'The book', the table of kinds). Assumes nothing.
 use Prim.Native.Nat.{ℕ}
-use mathlib.Core.List.{List, []}
+use mathlib.Core.List.{List}
 use lib.Ieee.{binary64, ofBits}
 use Rattle.words.specs.Outcome.{Outcome}
-use Rattle.words.specs.Rule.{reading}
 use Rattle.words.specs.Refusals.{Condition}
-use Rattle.words.specs.Draw.{draw}
-use Rattle.poisson.specs.Poisson.{knuthRule, thresholdRefusals}
-use Rattle.geometric.specs.Geometric.{geometricReading, probabilityRefusals}
-use Rattle.geometric.specs.Standard.{standardRule}
-use Rattle.hypergeometric.specs.Hypergeometric.{setUp, trayRefusals, inversionRule}
-use Rattle.draws.specs.declared.Request.{Request}
-use Rattle.draws.specs.declared.Request.the-variants.{Hypergeometric, Poisson, Geometric, StandardGeometric}
+use Rattle.words.specs.Draw.{Drawing, draw}
+use Rattle.poisson.specs.Poisson.{poisson}
+use Rattle.geometric.specs.Geometric.{geometric}
+use Rattle.geometric.specs.Standard.{standardGeometric}
+use Rattle.hypergeometric.specs.Reduction.{InSupport}
+use Rattle.hypergeometric.specs.Hypergeometric.{hypergeometric}
+use Rattle.kinds.specs.declared.Request.{Request}
+use Rattle.kinds.specs.declared.Request.the-variants.{Hypergeometric, Poisson, Geometric, StandardGeometric}
 
--- a request's parameters' refusals, in their order: 3, 4, 5, 6, 2; 7; 8, 9; none
-unfoldable pub parameterRefusals : Request → List Condition
-parameterRefusals (Hypergeometric N K n) = trayRefusals N K n
-parameterRefusals (Poisson T) = thresholdRefusals (ofBits binary64 T)
-parameterRefusals (Geometric p) = probabilityRefusals (ofBits binary64 p)
-parameterRefusals StandardGeometric = []
+-- each kind is drawn by its own rule, floats by their bits
+abbrev pub drawing : Request → Drawing ℕ
+drawing (Hypergeometric N K n) = hypergeometric N K n
+drawing (Poisson T) = poisson (ofBits binary64 T)
+drawing (Geometric p) = geometric (ofBits binary64 p)
+drawing StandardGeometric = standardGeometric
+
+-- what an accepted count keeps to: hypergeometric counts lie in max(0, n+K-N) to min(n, K)
+abbrev pub Supported : Request → ℕ → Type 0
+Supported (Hypergeometric N K n) c = InSupport N K n c
+Supported (Poisson T) c = Unit
+Supported (Geometric p) c = Unit
+Supported StandardGeometric c = Unit
+
+-- a request's parameters' refusals, in their order
+abbrev pub parameterRefusals : Request → List Condition
+parameterRefusals r = drawing r .refusals
 
 -- what its rule comes to over the words, where no parameter is refused
-unfoldable pub readingOf : Request → List ℕ → Outcome ℕ
-readingOf (Hypergeometric N K n) ws = reading (inversionRule (setUp N K n)) ws
-readingOf (Poisson T) ws = reading (knuthRule (ofBits binary64 T)) ws
-readingOf (Geometric p) ws = geometricReading (ofBits binary64 p) ws
-readingOf StandardGeometric ws = reading standardRule ws
+abbrev pub readingOf : Request → List ℕ → Outcome ℕ
+readingOf r ws = drawing r .reads ws
 
--- the draw, in the order 1, parameters, 10
-unfoldable pub drawOf : Request → List ℕ → Outcome ℕ
-drawOf r ws = draw ws (parameterRefusals r) (readingOf r ws)
+-- the draw
+abbrev pub drawOf : Request → List ℕ → Outcome ℕ
+drawOf r ws = draw (drawing r) ws

@@ -5,8 +5,8 @@ use mathlib.Core.Path.{_≡_}
 use lib.Ieee.{binary64, toBits}
 use Rattle.words.specs.Words.{ratio}
 use Rattle.words.specs.Outcome.{Outcome, drawn}
-use Rattle.draws.specs.declared.Request.{Request}
-use Rattle.draws.specs.declared.Request.the-variants.{Hypergeometric, Poisson, Geometric, StandardGeometric}
+use Rattle.kinds.specs.declared.Request.{Request}
+use Rattle.kinds.specs.declared.Request.the-variants.{Hypergeometric, Poisson, Geometric, StandardGeometric}
 use Rattle.draws.specs.Request.{drawOf}
 
 -- a request, words, and what is drawn

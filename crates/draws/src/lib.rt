@@ -1,24 +1,9 @@
-// One request of any kind, and one draw of it.
+// One draw of a request of any kind.
+use kinds::Request;
 use words::Answer;
 ghost use mathlib.Core.Path.{_≡_};
 ghost use Rattle.words.specs.Paper.{paper};
 ghost use Rattle.draws.specs.Request.{drawOf};
-
-// What may be asked for: the four kinds that a book can hold, with their parameters as a book holds them, floats by their 64 bits.
-pub enum Request {
-    Hypergeometric {
-        total: u64,
-        marked: u64,
-        sample: u64,
-    },
-    Poisson {
-        threshold: u64,
-    },
-    Geometric {
-        p: u64,
-    },
-    StandardGeometric,
-}
 
 // One draw of the request, from the front of the tape.
 pub fn draw(tape: &[u64], request: Request) -> Answer

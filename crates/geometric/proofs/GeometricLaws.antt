@@ -14,12 +14,13 @@ use Rattle.words.specs.Words.{mostWords, ratio, fractionOf}
 use Rattle.words.specs.Outcome.{Outcome, drawn, refused}
 use Rattle.words.specs.Rule.{done, more, Rule, reading, Local}
 use Rattle.words.specs.Refusals.{First}
-use Rattle.words.specs.Draw.{refusals}
+use Rattle.words.specs.Draw.{isOn, isShort, conditions, draw}
 use Rattle.words.proofs.Patterns.{sign, bits-between, bits-over}
-use Rattle.words.proofs.Reading.{refused-not-drawn, reading-used, reading-short}
+use Rattle.words.proofs.Reading.{refused-not-drawn, reading-used, reading-ends}
 use Rattle.words.proofs.Keeping.{After, after-cond, reading-keeps}
 use Rattle.words.proofs.Locality.{reading-local, cond-local, const-local}
-use Rattle.words.proofs.Drawing.{accepted-within, accepted-reading, draw-exactly, draw-local}
+use Rattle.words.proofs.Drawing.{accepted-within, accepted-reading}
+use Rattle.words.proofs.Lawful.{Lawful, lawful-exactly, lawful-local}
 use Rattle.geometric.specs.Power.{power}
 use Rattle.geometric.specs.Squares.{squares}
 use Rattle.geometric.specs.Geometric.{isProbability, isLarge, qOf, isNever, trivialRule, Search, firstRun, remainderWord, acceptance, searching, searchRule, geometricReading, isTooRare, probabilityRefusals, geometric}
@@ -234,20 +235,15 @@ module _ (p : Float) (ws : List ℕ) where
   pub reading-drew : (c u : ℕ) → geometricReading p ws ≡ drawn c u → Drew c u × (u ≤ length ws)
   reading-drew c u e = by-drew (isLarge p) (isNever p) c u refl refl (sym reading-by ∙ e)
 
-  by-ends : (large none : Bool) (n : ℕ) → by large none ≡ refused n → n ≡ 10
-  unfolding searched by
-  by-ends true none n x = reading-short (trivialRule p) 10 (λ s. refl) ws n x
+  by-ends : (large none : Bool) (n : ℕ) → by large none ≡ refused n → isShort n ≡ true
+  unfolding searched by isOn
+  by-ends true none n x = reading-ends (trivialRule p) (λ s. refl) ws n x
   by-ends false true n x = refused-not-drawn n (2 ^ 64 - 1) 0 (sym x)
-  by-ends false false n x = reading-short searched 10 (λ s. refl) ws n x
+  by-ends false false n x = reading-ends searched (λ s. refl) ws n x
 
-  -- a reading is refused by 10 alone
-  pub reading-ends : (n : ℕ) → geometricReading p ws ≡ refused n → n ≡ 10
-  reading-ends n x = by-ends (isLarge p) (isNever p) n (sym reading-by ∙ x)
-
-  -- each refusal is given exactly on its condition, none earlier holding
-  pub geometric-exactly : (n : ℕ) → (geometric p ws ≡ refused n) ↔ First n (refusals ws (probabilityRefusals p) (geometricReading p ws))
-  unfolding geometric
-  geometric-exactly = draw-exactly ws (probabilityRefusals p) (geometricReading p ws) reading-ends
+  -- a reading runs out by a short refusal alone
+  pub reading-short : (n : ℕ) → geometricReading p ws ≡ refused n → isShort n ≡ true
+  reading-short n x = by-ends (isLarge p) (isNever p) n (sym reading-by ∙ x)
 
 reading-local-of : (p : Float) → Local (geometricReading p)
 unfolding geometricReading
@@ -255,17 +251,16 @@ reading-local-of p =
     cond-local (isLarge p) _ _ (reading-local (trivialRule p))
     (cond-local (isNever p) _ _ (const-local (drawn (2 ^ 64 - 1) 0)) (reading-local (searchRule (qOf p) (2 ^ squares (qOf p) .k) (squares (qOf p) .pi))))
 
-module _ (p : Float) (ws : List ℕ) (c u : ℕ) (e : geometric p ws ≡ drawn c u) where
+module _ (p : Float) (ws : List ℕ) (c u : ℕ) (e : draw (geometric p) ws ≡ drawn c u) where
   drew : Drew p ws c u × (u ≤ length ws)
   unfolding geometric
-  drew = reading-drew p ws c u (accepted-reading ws (probabilityRefusals p) (geometricReading p ws) c u e)
+  drew = reading-drew p ws c u (accepted-reading (geometric p) ws c u e)
 
   pub geometric-drew : Drew p ws c u
   geometric-drew = drew .0
 
   pub geometric-used : u ≤ mostWords
-  unfolding geometric
-  geometric-used = le-trans (drew .1) (accepted-within ws (probabilityRefusals p) (geometricReading p ws) c u e)
+  geometric-used = le-trans (drew .1) (accepted-within (geometric p) ws c u e)
 
   -- by which of the three, as p decides
   pub geometric-trivial : isLarge p ≡ true → Failures p ws c u
@@ -307,7 +302,29 @@ module _ (p : Float) (ws : List ℕ) (c u : ℕ) (e : geometric p ws ≡ drawn c
           let r : s .m < span = subst (λ (x : ℕ). x < span) (sym (s .remainder)) (tried-lt (qOf p) span (squares (qOf p) .pi) ws (s .d) (s .before) (b .0)) in
           inl (omega (arith, s .count, mul-le-mul d (b .1)))
 
+-- what the layers above are owed; a count has no support
+pub geometric-lawful : (p : Float) → Lawful (geometric p) (λ c. Unit)
+unfolding geometric isOn
+geometric-lawful p =
+    record {
+      ends = reading-short p;
+      parameters = (refl, (refl, tt));
+      local = reading-local-of p;
+      within = λ ws c u e. reading-drew p ws c u e .1;
+      fits = λ ws c u e. count-fits c (geometric-count p ws c u e);
+      support = λ ws c u e. tt;
+    }
+  where
+    count-fits : (c : ℕ) → (c < 2 ^ 51) ⊎ (c ≡ 2 ^ 64 - 1) → c < 2 ^ 64
+    count-fits c (inl h) = omega arith
+    count-fits c (inr h) = omega arith
+
+module _ (p : Float) (ws : List ℕ) where
+  -- each refusal is given exactly on its condition, none earlier holding
+  pub geometric-exactly : (n : ℕ) → (draw (geometric p) ws ≡ refused n) ↔ First n (conditions (geometric p) ws)
+  geometric-exactly = lawful-exactly (geometric p) _ (geometric-lawful p) ws
+
   -- it looks at the words that it reports as used and at no others
-  pub geometric-local : (vs : List ℕ) → length vs ≤ mostWords → take u ws ≡ take u vs → geometric p vs ≡ drawn c u
-  unfolding geometric
-  geometric-local vs h same = draw-local (geometricReading p) (reading-local-of p) (probabilityRefusals p) ws vs c u h e same
+  pub geometric-local : (c u : ℕ) → draw (geometric p) ws ≡ drawn c u
+      → (vs : List ℕ) → length vs ≤ mostWords → take u ws ≡ take u vs → draw (geometric p) vs ≡ drawn c u
+  geometric-local = lawful-local (geometric p) _ (geometric-lawful p) ws

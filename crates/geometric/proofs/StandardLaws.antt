@@ -1,7 +1,7 @@
 -- Laws of the standard geometric draw: what 01 says of module 1 beside the rule itself. Assumes nothing.
 use mathlib.Core.Path.{_≡_, refl, ap, _∙_}
 use mathlib.Core.Bool.{true, false}
-use mathlib.Core.List.{List, []}
+use mathlib.Core.List.{List}
 use mathlib.Core.Logic.{_↔_}
 use Prim.Native.Nat.{ℕ, suc, _+_, _*_, _-_, _≤_, _<_}
 use native.Mathlib.Numerals.{add-one}
@@ -15,20 +15,16 @@ use Rattle.words.specs.Words.{mostWords}
 use Rattle.words.specs.Outcome.{drawn, refused}
 use Rattle.words.specs.Rule.{done, more, reading}
 use Rattle.words.specs.Refusals.{First}
-use Rattle.words.specs.Draw.{refusals}
-use Rattle.words.proofs.Reading.{reading-used, reading-short}
+use Rattle.words.specs.Draw.{isOn, conditions, draw}
+use Rattle.words.proofs.Reading.{reading-used, reading-ends}
 use Rattle.words.proofs.Keeping.{After, after-cond, reading-keeps}
 use Rattle.words.proofs.Locality.{reading-local}
-use Rattle.words.proofs.Drawing.{accepted-within, accepted-reading, draw-exactly, draw-local}
+use Rattle.words.proofs.Drawing.{accepted-within, accepted-reading}
+use Rattle.words.proofs.Lawful.{Lawful, lawful-exactly, lawful-local}
 use Rattle.geometric.proofs.Zeros.{zeros-fewer}
 use Rattle.geometric.specs.Standard.{standardRule, standardGeometric}
 
 module _ (ws : List ℕ) where
-  -- each refusal is given exactly on its condition, none earlier holding
-  pub standard-exactly : (n : ℕ) → (standardGeometric ws ≡ refused n) ↔ First n (refusals ws [] (reading standardRule ws))
-  unfolding standardGeometric
-  standard-exactly = draw-exactly ws [] (reading standardRule ws) (reading-short standardRule 10 (λ s. refl) ws)
-
   -- 01's words: every word before the last is 0, the last is not, and the count is 64 × (used - 1) plus the last word's leading zeros
   pub record Zeros (c u : ℕ) : Type 0 where
     pub some : 1 ≤ u
@@ -68,24 +64,41 @@ module _ (ws : List ℕ) where
       let m = n + leadingZeros 64 (getD ws u 0) in
       after-cond AllZero Zeros (eqb (getD ws u 0) 0) (more m) (done m) (suc u) (on-zero n u z) (on-other n u z)
 
-  module _ (c u : ℕ) (e : standardGeometric ws ≡ drawn c u) where
+  module _ (c u : ℕ) (e : draw standardGeometric ws ≡ drawn c u) where
     pub standard-zeros : Zeros c u
     unfolding standardGeometric AllZero
     standard-zeros =
         reading-keeps standardRule ws AllZero Zeros keeps (refl, below-none (λ (i : ℕ). getD ws i 0 ≡ 0)) c u
-        (accepted-reading ws [] (reading standardRule ws) c u e)
+        (accepted-reading standardGeometric ws c u e)
 
     pub standard-bounds : (u ≤ mostWords) × (c < 64 * mostWords)
     unfolding standardGeometric
     standard-bounds =
-        let o = reading standardRule ws in
-        let k = accepted-within ws [] o c u e in
-        let r = reading-used standardRule ws c u (accepted-reading ws [] o c u e) in
+        let k = accepted-within standardGeometric ws c u e in
+        let r = reading-used standardRule ws c u (accepted-reading standardGeometric ws c u e) in
         let z = standard-zeros in
         let l = zeros-fewer (getD ws (u - 1) 0) (z .last) in
         (omega arith, omega arith)
 
-    -- it looks at the words that it reports as used and at no others
-    pub standard-local : (vs : List ℕ) → length vs ≤ mostWords → take u ws ≡ take u vs → standardGeometric vs ≡ drawn c u
-    unfolding standardGeometric
-    standard-local vs h same = draw-local (reading standardRule) (reading-local standardRule) [] ws vs c u h e same
+-- what the layers above are owed; a count has no support
+pub standard-lawful : Lawful standardGeometric (λ c. Unit)
+unfolding standardGeometric isOn
+standard-lawful =
+    record {
+      ends = reading-ends standardRule (λ s. refl);
+      parameters = tt;
+      local = reading-local standardRule;
+      within = reading-used standardRule;
+      fits = λ ws c u e. omega (arith, standard-bounds ws c u e .1);
+      support = λ ws c u e. tt;
+    }
+
+module _ (ws : List ℕ) where
+  -- each refusal is given exactly on its condition, none earlier holding
+  pub standard-exactly : (n : ℕ) → (draw standardGeometric ws ≡ refused n) ↔ First n (conditions standardGeometric ws)
+  standard-exactly = lawful-exactly standardGeometric _ standard-lawful ws
+
+  -- it looks at the words that it reports as used and at no others
+  pub standard-local : (c u : ℕ) → draw standardGeometric ws ≡ drawn c u
+      → (vs : List ℕ) → length vs ≤ mostWords → take u ws ≡ take u vs → draw standardGeometric vs ≡ drawn c u
+  standard-local = lawful-local standardGeometric _ standard-lawful ws

@@ -7,7 +7,7 @@ use Rattle.words.specs.Words.{ratio, fractionOf}
 use Rattle.words.specs.Outcome.{Outcome, drawn}
 use Rattle.words.specs.Rule.{Step, done, more, Rule, reading}
 use Rattle.words.specs.Refusals.{Condition, _on_}
-use Rattle.words.specs.Draw.{draw}
+use Rattle.words.specs.Draw.{Drawing}
 use Rattle.geometric.specs.Power.{power}
 use Rattle.geometric.specs.Squares.{half, squares}
 
@@ -66,6 +66,6 @@ isTooRare p = not (isLarge p) && not (isNever p) && lt half (squares (qOf p) .pi
 abbrev pub probabilityRefusals : Float → List Condition
 probabilityRefusals p = 8 on not (isProbability p) ∷ 9 on isTooRare p ∷ []
 
--- the draw with the probability p over the words ws
-unfoldable pub geometric : Float → List ℕ → Outcome ℕ
-geometric p ws = draw ws (probabilityRefusals p) (geometricReading p ws)
+-- the draw with the probability p
+unfoldable pub geometric : Float → Drawing ℕ
+geometric p = record { refusals = probabilityRefusals p; reads = geometricReading p }

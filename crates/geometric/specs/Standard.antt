@@ -1,12 +1,11 @@
 -- 01, module 1: StandardGeometric. Assumes nothing.
 use Prim.Native.Nat.{ℕ, _+_}
 use mathlib.Core.Bool.{cond}
-use mathlib.Core.List.{List, []}
+use mathlib.Core.List.{[]}
 use lib.Dec.{eqb}
 use lib.Count.{leadingZeros}
-use Rattle.words.specs.Outcome.{Outcome}
 use Rattle.words.specs.Rule.{Step, done, more, Rule, reading}
-use Rattle.words.specs.Draw.{draw}
+use Rattle.words.specs.Draw.{Drawing}
 
 -- the leading zeros of each word read are added to n; the first word that isn't 0 is the last
 abbrev pub addZeros : ℕ → ℕ → Step ℕ ℕ
@@ -15,6 +14,6 @@ addZeros n w = cond (eqb w 0) (more (n + leadingZeros 64 w)) (done (n + leadingZ
 abbrev pub standardRule : Rule ℕ ℕ
 standardRule = record { start = more 0; step = addZeros; short = λ s. 10 }
 
--- the draw over the words ws; it has no parameters
-unfoldable pub standardGeometric : List ℕ → Outcome ℕ
-standardGeometric ws = draw ws [] (reading standardRule ws)
+-- the draw; it has no parameters
+unfoldable pub standardGeometric : Drawing ℕ
+standardGeometric = record { refusals = []; reads = reading standardRule }

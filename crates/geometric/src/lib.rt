@@ -12,6 +12,7 @@ ghost use Rattle.words.specs.Words.{mostWords, ratio};
 ghost use Rattle.words.specs.Outcome.{drawn};
 ghost use Rattle.words.specs.Rule.{more, read, reading};
 ghost use Rattle.words.specs.Refusals.{_on_, given};
+ghost use Rattle.words.specs.Draw.{draw};
 ghost use Rattle.words.specs.Paper.{paper};
 ghost use Rattle.geometric.specs.Power.{powerOf};
 ghost use Rattle.geometric.specs.Squares.{squares};
@@ -20,7 +21,7 @@ ghost use Rattle.geometric.specs.Standard.{standardRule, standardGeometr
 
 // The geometric draw: failures before the first success of probability p.
 pub fn sample(tape: &[u64], p: f64) -> Answer
-    ensures { λ r. ⌜ paper r ≡ geometric p (now (tape .entry)) ⌝ }
+    ensures { λ r. ⌜ paper r ≡ draw (geometric p) (now (tape .entry)) ⌝ }
 {
     if words::too_long(tape) {
         return Answer::Refused(Refusal::TapeTooLong);
@@ -42,7 +43,7 @@ const MINUS_ZERO: u64 = 0x8000_0000_0000_0000;
 // The same with p by its 64 bits, as it travels and is booked. Floats from 0 up stand in the order of their bits, and the bits of an
 // infinity, a NaN or a float with a sign are above those of 1. Of these only -0.0 is a probability: it equals 0, and no success ever comes.
 pub fn sample_bits(tape: &[u64], p: u64) -> Answer
-    ensures { λ r. ⌜ paper r ≡ geometric (ofBits binary64 p) (now (tape .entry)) ⌝ }
+    ensures { λ r. ⌜ paper r ≡ draw (geometric (ofBits binary64 p)) (now (tape .entry)) ⌝ }
 {
     if words::too_long(tape) {
         return Answer::Refused(Refusal::TapeTooLong);
@@ -183,7 +184,7 @@ fn power(r: f64, a: f64, b: u64) -> f64
 
 // The standard geometric draw: p is one half, and each leading zero bit a failure. All but one in 2^64 draws end with their first word.
 pub fn sample_standard(tape: &[u64]) -> Answer
-    ensures { λ r. ⌜ paper r ≡ standardGeometric (now (tape .entry)) ⌝ }
+    ensures { λ r. ⌜ paper r ≡ draw standardGeometric (now (tape .entry)) ⌝ }
 {
     if words::too_long(tape) {
         return Answer::Refused(Refusal::TapeTooLong);

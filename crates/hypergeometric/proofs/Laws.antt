@@ -7,13 +7,13 @@ use native.Mathlib.Omega.{arith}
 use lib.ListN.{length, take, getD}
 use Rattle.words.specs.Words.{mostWords, fractionOf}
 use Rattle.words.specs.Outcome.{drawn, refused}
-use Rattle.words.specs.Rule.{reading}
 use Rattle.words.specs.Refusals.{First, NoneHolds}
-use Rattle.words.specs.Draw.{refusals}
-use Rattle.words.proofs.Reading.{reading-short}
+use Rattle.words.specs.Draw.{isOn, conditions, draw}
+use Rattle.words.proofs.Reading.{reading-used, reading-ends}
 use Rattle.words.proofs.Keeping.{reading-keeps}
 use Rattle.words.proofs.Locality.{reading-local}
-use Rattle.words.proofs.Drawing.{accepted-passed, accepted-reading, draw-exactly, draw-local}
+use Rattle.words.proofs.Drawing.{accepted-passed, accepted-reading}
+use Rattle.words.proofs.Lawful.{Lawful, lawful-exactly, lawful-local}
 use Rattle.hypergeometric.specs.Reduction.{populationCap, reduction, InSupport}
 use Rattle.hypergeometric.specs.Hypergeometric.{setUp, isTaken, trayRefusals, counted, inversionRule, hypergeometric}
 use Rattle.hypergeometric.specs.RustTest.{rustTakes}
@@ -36,50 +36,59 @@ pub inversion-exact : (N K n : ℕ) → NoneHolds (trayRefusals N K n) → (x : 
     → StepExact (setUp N K n .n1) (setUp N K n .n2) (setUp N K n .k) x
 inversion-exact N K n none x h = let s = setUp N K n in step-exact (s .n1) (s .n2) (s .k) x (set-up-small N K n none) h
 
+module _ (N K n : ℕ) (ws : List ℕ) (c u : ℕ) (e : draw (hypergeometric N K n) ws ≡ drawn c u) where
+  -- used is 1, and the count is that of the first word
+  drew : (u ≡ 1) × (c ≡ counted (setUp N K n) (getD ws 0 0))
+  unfolding hypergeometric
+  drew =
+      let h = setUp N K n in
+      reading-keeps (inversionRule h) ws (λ s v. v ≡ 0) (λ a v. (v ≡ 1) × (a ≡ counted h (getD ws 0 0)))
+      (λ s v l z. (ap suc z, ap (λ (i : ℕ). counted h (getD ws i 0)) z)) refl c u
+      (accepted-reading (hypergeometric N K n) ws c u e)
+
+  pub hypergeometric-used : u ≡ 1
+  hypergeometric-used = drew .0
+
+  pub hypergeometric-count : c ≡ counted (setUp N K n) (getD ws 0 0)
+  hypergeometric-count = drew .1
+
+  none : NoneHolds (trayRefusals N K n)
+  unfolding hypergeometric
+  none = accepted-passed (hypergeometric N K n) ws c u e
+
+  -- the count lies in max(0, n+K-N) to min(n, K)
+  pub hypergeometric-support : InSupport N K n c
+  unfolding counted setUp
+  hypergeometric-support =
+      let h = setUp N K n in
+      subst (InSupport N K n) (sym hypergeometric-count)
+      (carries N K n (accepted-K N K n none) (accepted-n N K n none) .into _ (inverted≤ (h .n1) (h .n2) (h .k) (h .first) (fractionOf (getD ws 0 0))))
+
+  pub hypergeometric-bounds : (u ≤ mostWords) × (c ≤ populationCap)
+  hypergeometric-bounds =
+      let s = hypergeometric-support in
+      (omega (arith, hypergeometric-used), omega (arith, accepted-n N K n none, accepted-N N K n none))
+
+-- what the layers above are owed
+pub hypergeometric-lawful : (N K n : ℕ) → Lawful (hypergeometric N K n) (InSupport N K n)
+unfolding hypergeometric trayRefusals isOn
+hypergeometric-lawful N K n =
+    let r = inversionRule (setUp N K n) in
+    record {
+      ends = reading-ends r (λ s. refl);
+      parameters = (refl, (refl, (refl, (refl, (refl, tt)))));
+      local = reading-local r;
+      within = reading-used r;
+      fits = λ ws c u e. omega (arith, hypergeometric-bounds N K n ws c u e .1);
+      support = hypergeometric-support N K n;
+    }
+
 module _ (N K n : ℕ) (ws : List ℕ) where
   -- each refusal is given exactly on its condition, none earlier holding
-  pub hypergeometric-exactly : (x : ℕ) → (hypergeometric N K n ws ≡ refused x)
-      ↔ First x (refusals ws (trayRefusals N K n) (reading (inversionRule (setUp N K n)) ws))
-  unfolding hypergeometric
-  hypergeometric-exactly =
-      let r = inversionRule (setUp N K n) in
-      draw-exactly ws (trayRefusals N K n) (reading r ws) (reading-short r 10 (λ s. refl) ws)
+  pub hypergeometric-exactly : (x : ℕ) → (draw (hypergeometric N K n) ws ≡ refused x) ↔ First x (conditions (hypergeometric N K n) ws)
+  hypergeometric-exactly = lawful-exactly (hypergeometric N K n) _ (hypergeometric-lawful N K n) ws
 
-  module _ (c u : ℕ) (e : hypergeometric N K n ws ≡ drawn c u) where
-    -- used is 1, and the count is that of the first word
-    drew : (u ≡ 1) × (c ≡ counted (setUp N K n) (getD ws 0 0))
-    unfolding hypergeometric
-    drew =
-        let h = setUp N K n in
-        reading-keeps (inversionRule h) ws (λ s v. v ≡ 0) (λ a v. (v ≡ 1) × (a ≡ counted h (getD ws 0 0)))
-        (λ s v l z. (ap suc z, ap (λ (i : ℕ). counted h (getD ws i 0)) z)) refl c u
-        (accepted-reading ws (trayRefusals N K n) (reading (inversionRule h) ws) c u e)
-
-    pub hypergeometric-used : u ≡ 1
-    hypergeometric-used = drew .0
-
-    pub hypergeometric-count : c ≡ counted (setUp N K n) (getD ws 0 0)
-    hypergeometric-count = drew .1
-
-    -- the count lies in max(0, n+K-N) to min(n, K)
-    pub hypergeometric-support : InSupport N K n c
-    unfolding hypergeometric counted setUp
-    hypergeometric-support =
-        let none = accepted-passed ws (trayRefusals N K n) (reading (inversionRule (setUp N K n)) ws) c u e in
-        let h = setUp N K n in
-        subst (InSupport N K n) (sym hypergeometric-count)
-        (carries N K n (accepted-K N K n none) (accepted-n N K n none) .into _ (inverted≤ (h .n1) (h .n2) (h .k) (h .first) (fractionOf (getD ws 0 0))))
-
-    pub hypergeometric-bounds : (u ≤ mostWords) × (c ≤ populationCap)
-    unfolding hypergeometric
-    hypergeometric-bounds =
-        let none = accepted-passed ws (trayRefusals N K n) (reading (inversionRule (setUp N K n)) ws) c u e in
-        let s = hypergeometric-support in
-        (omega (arith, hypergeometric-used), omega (arith, accepted-n N K n none, accepted-N N K n none))
-
-    -- it looks at the words that it reports as used and at no others
-    pub hypergeometric-local : (vs : List ℕ) → length vs ≤ mostWords → take u ws ≡ take u vs → hypergeometric N K n vs ≡ drawn c u
-    unfolding hypergeometric
-    hypergeometric-local vs h same =
-        let r = inversionRule (setUp N K n) in
-        draw-local (reading r) (reading-local r) (trayRefusals N K n) ws vs c u h e same
+  -- it looks at the words that it reports as used and at no others
+  pub hypergeometric-local : (c u : ℕ) → draw (hypergeometric N K n) ws ≡ drawn c u
+      → (vs : List ℕ) → length vs ≤ mostWords → take u ws ≡ take u vs → draw (hypergeometric N K n) vs ≡ drawn c u
+  hypergeometric-local = lawful-local (hypergeometric N K n) _ (hypergeometric-lawful N K n) ws

@@ -2,14 +2,13 @@
 -- nothing. Assumes nothing.
 use mathlib.Core.Path.{_≡_, sym, ap, _∙_, subst}
 use mathlib.Core.Bool.{false}
-use mathlib.Core.List.{List, []}
+use mathlib.Core.List.{List}
 use Prim.Native.Nat.{ℕ, _+_, _*_, _^_, _≤_, _<_, min}
 use native.Mathlib.Nat.{mul-le-mul}
 use native.Mathlib.Omega.{arith}
 use borrow.Author.Tests.{ltb-false}
 use Rattle.words.specs.Words.{tooLong}
 use Rattle.words.specs.Outcome.{drawn, refused}
-use Rattle.words.specs.Rule.{reading}
 use Rattle.words.specs.Draw.{draw}
 use Rattle.words.specs.Refusals.{NoneHolds}
 use Rattle.words.specs.Paper.{numberOf}
@@ -22,7 +21,7 @@ use Rattle.hypergeometric.specs.declared.SetUp.{SetUp}
 use Rattle.hypergeometric.specs.declared.SetUp.the-variants.{Ready, Refused}
 use Rattle.hypergeometric.specs.Reduction.{populationCap, Lands, reduction}
 use Rattle.hypergeometric.specs.Inversion.{Small}
-use Rattle.hypergeometric.specs.Hypergeometric.{setUp, trayRefusals, settled, setUpPaper, FromSetUp, inversionRule, hypergeometric}
+use Rattle.hypergeometric.specs.Hypergeometric.{setUp, trayRefusals, settled, setUpPaper, FromSetUp, hypergeometric, fromKept}
 use Rattle.hypergeometric.proofs.Reducing.{n1+n2, k≤n2, lands}
 
 -- the sizes of the reduction's numbers, for what is added and multiplied with them
@@ -70,11 +69,11 @@ module _ (N K n : ℕ) (none : NoneHolds (trayRefusals N K n)) where
   set-up-lands = let h = accepted-N in lands N K n accepted-K accepted-n (omega arith)
 
 -- a refusal of the set-up is the draw's
-pub refused-draw : (N K n x : ℕ) (ws : List ℕ) → tooLong ws ≡ false → settled N K n ≡ refused x → hypergeometric N K n ws ≡ refused x
+pub refused-draw : (N K n x : ℕ) (ws : List ℕ) → tooLong ws ≡ false → settled N K n ≡ refused x → draw (hypergeometric N K n) ws ≡ refused x
 unfolding settled hypergeometric
 refused-draw N K n x ws within e =
     let first = exactly (trayRefusals N K n) (drawn (setUp N K n) 0) (λ m d. refused-not-drawn m (setUp N K n) 0 (sym d)) x .0 e in
-    parameters-next ws (trayRefusals N K n) (reading (inversionRule (setUp N K n)) ws) within x first
+    parameters-next (hypergeometric N K n) ws within x first
 
 -- ---- a record that the set-up gave
 -- by this a caller that keeps a record meets what `sample_from` asks
@@ -101,12 +100,10 @@ module _ (h : Hypergeometric) (f : FromSetUp h) where
       (set-up-lands (f .N) (f .K) (f .n) kept-none)
 
   -- a draw from it is the draw of its tray
-  pub kept-draw : (ws : List ℕ) → draw ws [] (reading (inversionRule h) ws) ≡ hypergeometric (f .N) (f .K) (f .n) ws
+  pub kept-draw : (ws : List ℕ) → draw (fromKept h) ws ≡ draw (hypergeometric (f .N) (f .K) (f .n)) ws
   unfolding hypergeometric
   kept-draw ws =
-      let ps = trayRefusals (f .N) (f .K) (f .n) in
-      let o = reading (inversionRule (setUp (f .N) (f .K) (f .n))) ws in
-      ap (λ (g : Hypergeometric). draw ws [] (reading (inversionRule g) ws)) (sym kept-is) ∙ sym (draw-passed ws ps o kept-none)
+      ap (λ (g : Hypergeometric). draw (fromKept g) ws) (sym kept-is) ∙ sym (draw-passed (hypergeometric (f .N) (f .K) (f .n)) ws kept-none)
 
 -- equal readings, equal answers: so `set_up`'s contract leaves one
 pub one-set-up : (a b : SetUp) → setUpPaper a ≡ setUpPaper b → a ≡ b

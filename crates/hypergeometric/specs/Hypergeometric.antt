@@ -10,7 +10,7 @@ use Rattle.words.specs.Words.{ratio, fractionOf}
 use Rattle.words.specs.Outcome.{Outcome, drawn, refused}
 use Rattle.words.specs.Rule.{done, more, Rule, reading}
 use Rattle.words.specs.Refusals.{Condition, _on_, given}
-use Rattle.words.specs.Draw.{draw}
+use Rattle.words.specs.Draw.{Drawing}
 use Rattle.words.specs.Paper.{numberOf}
 use Rattle.hypergeometric.specs.declared.Hypergeometric.{Hypergeometric}
 use Rattle.hypergeometric.specs.declared.Reduced.{Reduced}
@@ -70,6 +70,10 @@ counted h w = landing (h .sign) (h .offset) (inverted (h .n1) (h .n2) (h .k) (h 
 abbrev pub inversionRule : Hypergeometric → Rule (Unit {0}) ℕ
 inversionRule h = record { start = more tt; step = λ s w. done (counted h w); short = λ s. 10 }
 
--- the draw from N things, K of them marked, with a sample of n, over the words ws
-unfoldable pub hypergeometric : ℕ → ℕ → ℕ → List ℕ → Outcome ℕ
-hypergeometric N K n ws = draw ws (trayRefusals N K n) (reading (inversionRule (setUp N K n)) ws)
+-- the draw from N things, K of them marked, with a sample of n
+unfoldable pub hypergeometric : ℕ → ℕ → ℕ → Drawing ℕ
+hypergeometric N K n = record { refusals = trayRefusals N K n; reads = reading (inversionRule (setUp N K n)) }
+
+-- a draw from a kept record: its tray was tested by the set-up
+abbrev pub fromKept : Hypergeometric → Drawing ℕ
+fromKept h = record { refusals = []; reads = reading (inversionRule h) }

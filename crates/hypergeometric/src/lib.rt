@@ -8,14 +8,13 @@ ghost use mathlib.Core.List.{[], _∷_};
 ghost use Prim.Native.Nat.{_≤_, _<_, _^_, min, max};
 ghost use lib.Ieee.Scale.{finite};
 ghost use Rattle.words.specs.Outcome.{drawn};
-ghost use Rattle.words.specs.Rule.{reading};
 ghost use Rattle.words.specs.Refusals.{_on_, given};
 ghost use Rattle.words.specs.Draw.{draw};
 ghost use Rattle.words.specs.Paper.{paper};
 ghost use Rattle.hypergeometric.specs.Reduction.{populationCap, landing, flip, Lands, byMarked, reduction};
 ghost use Rattle.hypergeometric.specs.First.{asFloat, timesIn, overIn, atFactor, fractionOfFactorials, firstProbability};
 ghost use Rattle.hypergeometric.specs.Inversion.{Small, nextP, inverted};
-ghost use Rattle.hypergeometric.specs.Hypergeometric.{withFirst, zeroOrNotFinite, settled, setUpPaper, FromSetUp, inversionRule, hypergeometric};
+ghost use Rattle.hypergeometric.specs.Hypergeometric.{withFirst, zeroOrNotFinite, settled, setUpPaper, FromSetUp, fromKept, hypergeometric};
 
 // The largest population that is drawn from.
 const CAP: u64 = 1_048_576;
@@ -61,7 +60,7 @@ pub fn sample(
     population_with_feature: u64,
     sample_size: u64,
 ) -> Answer
-    ensures { λ r. ⌜ paper r ≡ hypergeometric «total_population_size» «population_with_feature» «sample_size» (now (tape .entry)) ⌝ }
+    ensures { λ r. ⌜ paper r ≡ draw (hypergeometric «total_population_size» «population_with_feature» «sample_size») (now (tape .entry)) ⌝ }
 {
     if words::too_long(tape) {
         return Answer::Refused(Refusal::TapeTooLong);
@@ -77,7 +76,7 @@ pub fn sample(
 // set-up gave.
 pub fn sample_from(tape: &[u64], kept: Hypergeometric) -> Answer
     requires { ⌜ FromSetUp kept ⌝ }
-    ensures { λ r. ⌜ paper r ≡ draw (now (tape .entry)) [] (reading (inversionRule kept) (now (tape .entry))) ⌝ }
+    ensures { λ r. ⌜ paper r ≡ draw (fromKept kept) (now (tape .entry)) ⌝ }
 {
     if words::too_long(tape) {
         return Answer::Refused(Refusal::TapeTooLong);

@@ -13,12 +13,13 @@ use Rattle.words.specs.Words.{mostWords, ratio, fractionOf}
 use Rattle.words.specs.Outcome.{drawn, refused}
 use Rattle.words.specs.Rule.{done, more, reading}
 use Rattle.words.specs.Refusals.{First}
-use Rattle.words.specs.Draw.{refusals}
+use Rattle.words.specs.Draw.{isOn, conditions, draw}
 use Rattle.words.proofs.Patterns.{bits-between, bits-under, bits-over}
-use Rattle.words.proofs.Reading.{reading-used, reading-short}
+use Rattle.words.proofs.Reading.{reading-used, reading-ends}
 use Rattle.words.proofs.Keeping.{After, after-cond, reading-keeps}
 use Rattle.words.proofs.Locality.{reading-local}
-use Rattle.words.proofs.Drawing.{accepted-within, accepted-reading, draw-exactly, draw-local}
+use Rattle.words.proofs.Drawing.{accepted-within, accepted-reading}
+use Rattle.words.proofs.Lawful.{Lawful, lawful-exactly, lawful-local}
 use Rattle.poisson.specs.Poisson.{Product, none, product, whileAbove, knuthRule, inRange, thresholdRefusals, poisson}
 
 -- a NaN is outside the range; both its ends are inside, and the next floats past them are not
@@ -61,11 +62,6 @@ productOf ws zero = fractionOf (getD ws 0 0)
 productOf ws (suc n) = mul binary64 (productOf ws n) (fractionOf (getD ws (suc n) 0))
 
 module _ (T : Float) (ws : List ℕ) where
-  -- each refusal is given exactly on its condition, none earlier holding
-  pub poisson-exactly : (n : ℕ) → (poisson T ws ≡ refused n) ↔ First n (refusals ws (thresholdRefusals T) (reading (knuthRule T) ws))
-  unfolding poisson
-  poisson-exactly = draw-exactly ws (thresholdRefusals T) (reading (knuthRule T) ws) (reading-short (knuthRule T) 10 (λ s. refl) ws)
-
   -- every product up to the nth was above T
   Above : ℕ → Type 0
   Above n = (i : ℕ) → i < n → lt T (productOf ws i) ≡ true
@@ -101,10 +97,10 @@ module _ (T : Float) (ws : List ℕ) where
   keeps none u h e = judged (fractionOf (getD ws u 0)) 0 u e (ap (λ (i : ℕ). fractionOf (getD ws i 0)) e) (below-none (λ (i : ℕ). lt T (productOf ws i) ≡ true))
   keeps (product p n) u h k = judged (mul binary64 p (fractionOf (getD ws u 0))) (n + 1) u (k .0) (next n u p (k .0) (k .1)) (k .2)
 
-  module _ (c u : ℕ) (e : poisson T ws ≡ drawn c u) where
+  module _ (c u : ℕ) (e : draw (poisson T) ws ≡ drawn c u) where
     pub poisson-knuth : Knuth c u
     unfolding poisson Multiplied
-    poisson-knuth = reading-keeps (knuthRule T) ws Multiplied Knuth keeps refl c u (accepted-reading ws (thresholdRefusals T) (reading (knuthRule T) ws) c u e)
+    poisson-knuth = reading-keeps (knuthRule T) ws Multiplied Knuth keeps refl c u (accepted-reading (poisson T) ws c u e)
 
     -- used is count + 1
     pub poisson-used : u ≡ c + 1
@@ -113,13 +109,30 @@ module _ (T : Float) (ws : List ℕ) where
     pub poisson-bounds : (u ≤ mostWords) × (c < mostWords)
     unfolding poisson
     poisson-bounds =
-        let o = reading (knuthRule T) ws in
-        let k = accepted-within ws (thresholdRefusals T) o c u e in
-        let r = reading-used (knuthRule T) ws c u (accepted-reading ws (thresholdRefusals T) o c u e) in
+        let k = accepted-within (poisson T) ws c u e in
+        let r = reading-used (knuthRule T) ws c u (accepted-reading (poisson T) ws c u e) in
         let s = poisson-used in
         (omega arith, omega arith)
 
-    -- it looks at the words that it reports as used and at no others
-    pub poisson-local : (vs : List ℕ) → length vs ≤ mostWords → take u ws ≡ take u vs → poisson T vs ≡ drawn c u
-    unfolding poisson
-    poisson-local vs h same = draw-local (reading (knuthRule T)) (reading-local (knuthRule T)) (thresholdRefusals T) ws vs c u h e same
+-- what the layers above are owed; a count has no support
+pub poisson-lawful : (T : Float) → Lawful (poisson T) (λ c. Unit)
+unfolding poisson isOn
+poisson-lawful T =
+    record {
+      ends = reading-ends (knuthRule T) (λ s. refl);
+      parameters = (refl, tt);
+      local = reading-local (knuthRule T);
+      within = reading-used (knuthRule T);
+      fits = λ ws c u e. omega (arith, poisson-bounds T ws c u e .1);
+      support = λ ws c u e. tt;
+    }
+
+module _ (T : Float) (ws : List ℕ) where
+  -- each refusal is given exactly on its condition, none earlier holding
+  pub poisson-exactly : (n : ℕ) → (draw (poisson T) ws ≡ refused n) ↔ First n (conditions (poisson T) ws)
+  poisson-exactly = lawful-exactly (poisson T) _ (poisson-lawful T) ws
+
+  -- it looks at the words that it reports as used and at no others
+  pub poisson-local : (c u : ℕ) → draw (poisson T) ws ≡ drawn c u
+      → (vs : List ℕ) → length vs ≤ mostWords → take u ws ≡ take u vs → draw (poisson T) vs ≡ drawn c u
+  poisson-local = lawful-local (poisson T) _ (poisson-lawful T) ws

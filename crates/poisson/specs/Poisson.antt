@@ -4,10 +4,9 @@ use mathlib.Core.Bool.{Bool, not, _&&_, cond}
 use mathlib.Core.List.{List, [], _∷_}
 use lib.Ieee.{Float, binary64, mul, lt, le}
 use Rattle.words.specs.Words.{ratio, fractionOf}
-use Rattle.words.specs.Outcome.{Outcome}
 use Rattle.words.specs.Rule.{Step, done, more, Rule, reading}
 use Rattle.words.specs.Refusals.{Condition, _on_}
-use Rattle.words.specs.Draw.{draw}
+use Rattle.words.specs.Draw.{Drawing}
 
 -- before the first fraction; then the product p after n multiplications
 pub data Product : Type 0 where
@@ -34,6 +33,6 @@ inRange T = le (ratio 1 (2 ^ 18)) T && le T (ratio 1 1)
 abbrev pub thresholdRefusals : Float → List Condition
 thresholdRefusals T = 7 on not (inRange T) ∷ []
 
--- the draw with the threshold T over the words ws
-unfoldable pub poisson : Float → List ℕ → Outcome ℕ
-poisson T ws = draw ws (thresholdRefusals T) (reading (knuthRule T) ws)
+-- the draw with the threshold T
+unfoldable pub poisson : Float → Drawing ℕ
+poisson T = record { refusals = thresholdRefusals T; reads = reading (knuthRule T) }

@@ -5,5 +5,7 @@ pub mod Reading
 pub mod Locality
 pub mod Keeping
 pub mod Exactly
+pub mod Short
 pub mod Drawing
+pub mod Lawful
 pub mod OneAnswer

@@ -1,5 +1,6 @@
 -- Laws of reading, once for every rule: a turn, the tape's end, done; how many words are used; whose refusal it is. Assumes nothing.
 use mathlib.Core.Path.{_≡_, refl, sym, ap, _∙_}
+use mathlib.Core.Bool.{true}
 use mathlib.Core.List.{List, [], _∷_}
 use Prim.Native.Nat.{ℕ, suc, _+_, _≤_}
 use native.Mathlib.Numerals.{add-one}
@@ -10,6 +11,7 @@ use Rattle.words.specs.declared.Word.the-variants.{Is, End}
 use Rattle.words.specs.Words.{wordAt}
 use Rattle.words.specs.Outcome.{drawn, refused}
 use Rattle.words.specs.Rule.{Step, done, more, Rule, read, reading}
+use Rattle.words.specs.Draw.{isShort}
 use Rattle.words.proofs.Tape.{word-there, word-missing}
 
 -- a refusal is no draw
@@ -55,6 +57,6 @@ module _ {S A : Type 0} (r : Rule S A) where
   pub reading-used : (ws : List ℕ) (a : A) (u : ℕ) → reading r ws ≡ drawn a u → u ≤ length ws
   reading-used ws a u e = let h = used-from ws (r .start) 0 a u e in omega arith
 
-  -- a rule that refuses every short tape by one number is refused by that number alone
-  pub reading-short : (k : ℕ) → ((s : S) → r .short s ≡ k) → (ws : List ℕ) (n : ℕ) → reading r ws ≡ refused n → n ≡ k
-  reading-short k short ws n e = let s = refused-from ws (r .start) 0 n e in sym (s .1) ∙ short (s .0)
+  -- a rule whose every state is short by a number of the list runs out by such a number alone
+  pub reading-ends : ((s : S) → isShort (r .short s) ≡ true) → (ws : List ℕ) (n : ℕ) → reading r ws ≡ refused n → isShort n ≡ true
+  reading-ends short ws n e = let s = refused-from ws (r .start) 0 n e in rw (s .1) at (short (s .0))

@@ -1,21 +1,43 @@
--- 01, 'Refusal numbers': the order for a draw, 1, then the parameters' refusals, then 10. Assumes nothing.
+-- 01, 'Refusal numbers': the order for a draw, 1, then the parameters' refusals, then those of a tape that is too short. Assumes nothing.
 use Prim.Native.Nat.{ℕ}
-use mathlib.Core.Bool.{Bool, false}
+use mathlib.Core.Bool.{Bool, false, _||_}
 use mathlib.Core.List.{List, [], _∷_, _++_}
 use lib.Dec.{eqb}
 use Rattle.words.specs.Words.{tooLong}
 use Rattle.words.specs.Outcome.{Outcome, drawn, refused}
 use Rattle.words.specs.Refusals.{Condition, _on_, given}
 
+-- the refusals by which a reading may run out of words, in their order: Exhausted
+abbrev pub shorts : List ℕ
+shorts = 10 ∷ []
+
+-- whether a number is on a list
+unfoldable pub isOn : ℕ → List ℕ → Bool
+isOn n [] = false
+isOn n (m ∷ ms) = eqb n m || isOn n ms
+
+abbrev pub isShort : ℕ → Bool
+isShort n = isOn n shorts
+
 -- whether reading called for a word past the end, in a state whose refusal is n
 abbrev pub endsBy : {A : Type 0} → ℕ → Outcome A → Bool
 endsBy n (drawn a u) = false
 endsBy n (refused m) = eqb m n
 
--- the refusals of a draw over the words ws, with its parameters' refusals ps and the reading o
-abbrev pub refusals : {A : Type 0} → List ℕ → List Condition → Outcome A → List Condition
-refusals ws ps o = 1 on tooLong ws ∷ ps ++ (10 on endsBy 10 o ∷ [])
+-- that the reading o ended by n, for each n of a list
+unfoldable pub endings : {A : Type 0} → List ℕ → Outcome A → List Condition
+endings [] o = []
+endings (n ∷ ns) o = n on endsBy n o ∷ endings ns o
 
--- a draw's outcome
-abbrev pub draw : {A : Type 0} → List ℕ → List Condition → Outcome A → Outcome A
-draw ws ps o = given (refusals ws ps o) o
+-- what a draw is made of: its parameters' refusals in their order, and what its rule comes to over the words
+pub record Drawing (A : Type 0) : Type 0 where
+  pub refusals : List Condition
+  pub reads : List ℕ → Outcome A
+
+-- its conditions over the words ws
+abbrev pub conditions : {A : Type 0} → Drawing A → List ℕ → List Condition
+conditions d ws = 1 on tooLong ws ∷ d .refusals ++ endings shorts (d .reads ws)
+
+-- its outcome
+unfoldable pub draw : {A : Type 0} → Drawing A → List ℕ → Outcome A
+draw d ws = given (conditions d ws) (d .reads ws)

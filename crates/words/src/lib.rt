@@ -2,6 +2,7 @@
 ghost use mathlib.Core.Path.{_≡_};
 ghost use Rattle.words.specs.Words.{fractionOf, tooLong, wordAt};
 ghost use Rattle.words.specs.Paper.{numberOf};
+ghost use Rattle.words.specs.Draw.{isShort};
 
 // Why a call was refused: every name of the table of refusals, in the order of its numbers.
 pub enum Refusal {
@@ -58,6 +59,16 @@ pub fn number(refusal: Refusal) -> u32
         Refusal::BookFull => 15,
         Refusal::StrikeTooMany => 16,
         Refusal::RedrawDiffers => 17,
+    }
+}
+
+// Whether a refusal, by its number, is one by which a reading may run out of words.
+pub fn is_short(number: u32) -> bool
+    ensures { λ r. ⌜ r ≡ isShort number ⌝ }
+{
+    match number {
+        10 => true,
+        _ => false,
     }
 }
 

@@ -5,7 +5,8 @@ use mathlib.Core.List.{[], _∷_}
 use lib.Ieee.{ofBits, round}
 use Rattle.words.specs.Refusals.{_on_, given}
 use Rattle.words.proofs.Tape.{within-limit}
-use Rattle.words.proofs.Drawing.{ends-same}
+use Rattle.words.specs.Draw.{shorts, draw}
+use Rattle.words.proofs.Short.{ends-same}
 use Rattle.geometric.specs.Geometric.{isProbability, isTooRare, geometricReading, geometric}
 use Rattle.geometric.proofs.sample.Statement.{statement}
 use Rattle.geometric.proofs.sample.Tie as tie
@@ -14,26 +15,26 @@ too-long-requires : tie.Need-too-long-requires
 too-long-requires c κs = search needs
 
 returns : tie.Need-returns
-unfolding geometric
+unfolding draw geometric
 returns c = simp (sym (c .before .too-long .ensures) ∙ c .if1 .taken)
 
 sample-valid-requires : tie.Need-sample-valid-requires
 sample-valid-requires c κs = within-limit _ (sym (c .before .before .before .too-long .ensures) ∙ c .before .before .if1 .left)
 
 returns-2 : tie.Need-returns-2
-unfolding geometric isProbability ofBits round
+unfolding draw geometric isProbability ofBits round
 returns-2 c =
     let a = c .before .before .before .before .before .before .args in
     c .sample-valid .ensures
     ∙ simp (sym (c .before .before .before .before .too-long .ensures) ∙ c .before .before .before .if1 .left, c .before .before .if2 .taken, c .before .if3 .taken)
-    (ap (λ o. given (9 on isTooRare (a .p) ∷ []) o) (sym (ends-same (geometricReading (a .p) (a .tape .now)))))
+    (ap (λ o. given (9 on isTooRare (a .p) ∷ []) o) (sym (ends-same shorts (geometricReading (a .p) (a .tape .now)))))
 
 returns-3 : tie.Need-returns-3
-unfolding geometric isProbability ofBits round
+unfolding draw geometric isProbability ofBits round
 returns-3 c = simp (sym (c .before .before .before .too-long .ensures) ∙ c .before .before .if1 .left, c .before .if2 .taken, c .if3 .left)
 
 returns-4 : tie.Need-returns-4
-unfolding geometric isProbability ofBits round
+unfolding draw geometric isProbability ofBits round
 returns-4 c = simp (sym (c .before .before .too-long .ensures) ∙ c .before .if1 .left, c .if2 .left)
 
 pub sample-spec : {M : Type 1} → statement M

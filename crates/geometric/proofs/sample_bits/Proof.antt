@@ -2,12 +2,15 @@
 use borrow.Author.Needs.{needs}
 use mathlib.Core.Path.{_≡_, sym, ap, _∙_}
 use mathlib.Core.List.{[], _∷_}
+use Prim.Native.Nat.{_-_, _^_}
 use native.Mathlib.Omega.{arith}
 use lib.Ieee.{binary64, ofBits}
 use Rattle.words.specs.Refusals.{_on_, given}
 use Rattle.words.proofs.Patterns.{float-of-bits}
 use Rattle.words.proofs.Tape.{within-limit}
-use Rattle.words.proofs.Drawing.{ends-same}
+use Rattle.words.specs.Outcome.{drawn}
+use Rattle.words.specs.Draw.{shorts, draw}
+use Rattle.words.proofs.Short.{ends-same}
 use Rattle.geometric.specs.Geometric.{isTooRare, geometricReading, geometric}
 use Rattle.geometric.proofs.GeometricLaws.{bits-probability, sign-probability, sign-never, sign-not-rare, bits-not-probability}
 use Rattle.geometric.proofs.sample_bits.Statement.{statement}
@@ -17,7 +20,7 @@ too-long-requires : tie.Need-too-long-requires
 too-long-requires c κs = search needs
 
 returns : tie.Need-returns
-unfolding geometric
+unfolding draw geometric
 returns c = simp (sym (c .before .too-long .ensures) ∙ c .if1 .taken)
 
 float-from-bits-sample-valid : tie.Need-float-from-bits-sample-valid
@@ -27,28 +30,29 @@ sample-valid-requires : tie.Need-sample-valid-requires
 sample-valid-requires c κs = within-limit _ (sym (c .before .before .too-long .ensures) ∙ c .before .if1 .left)
 
 returns-2 : tie.Need-returns-2
-unfolding geometric
+unfolding draw geometric
 returns-2 c =
     let a = c .before .before .before .before .before .args in
     let p = ofBits binary64 (a .p) in
     let within = sym (c .before .before .before .too-long .ensures) ∙ c .before .before .if1 .left in
     c .sample-valid .ensures
     ∙ simp (within, bits-probability (a .p) (omega arith))
-    (ap (λ o. given (9 on isTooRare p ∷ []) o) (sym (ends-same (geometricReading p (a .tape .now)))))
+    (ap (λ o. given (9 on isTooRare p ∷ []) o) (sym (ends-same shorts (geometricReading p (a .tape .now)))))
 
 never-requires : tie.Need-never-requires
 never-requires c κs = search needs
 
 returns-3 : tie.Need-returns-3
-unfolding geometric
+unfolding draw geometric
 returns-3 c =
     let a = c .before .before .before .before .before .before .args in
     let within = sym (c .before .before .before .before .too-long .ensures) ∙ c .before .before .before .if1 .left in
     let z = c .before .if3 .taken in
-    c .never .ensures ∙ simp (within, sign-probability (a .p) z, sign-not-rare (a .p) z, sign-never (a .p) (a .tape .now) z)
+    c .never .ensures
+    ∙ simp (within, sign-probability (a .p) z, sign-not-rare (a .p) z, sign-never (a .p) (a .tape .now) z) (sym (ends-same shorts (drawn (2 ^ 64 - 1) 0)))
 
 returns-4 : tie.Need-returns-4
-unfolding geometric
+unfolding draw geometric
 returns-4 c =
     let p = c .before .before .before .before .before .args .p in
     let within = sym (c .before .before .before .too-long .ensures) ∙ c .before .before .if1 .left in

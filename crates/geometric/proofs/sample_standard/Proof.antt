@@ -10,7 +10,8 @@ use lib.Count.{leadingZeros, leading-le, leading-of-zero}
 use Rattle.words.specs.Rule.{read, reading}
 use Rattle.words.proofs.Tape.{within-limit}
 use Rattle.words.proofs.Reading.{read-done, read-at, read-end}
-use Rattle.words.proofs.Drawing.{ends-same}
+use Rattle.words.specs.Draw.{shorts, draw}
+use Rattle.words.proofs.Short.{ends-same}
 use Rattle.geometric.specs.Standard.{standardRule, addZeros, standardGeometric}
 use Rattle.geometric.proofs.sample_standard.Statement.{statement}
 use Rattle.geometric.proofs.sample_standard.Tie as tie
@@ -19,13 +20,13 @@ too-long-requires : tie.Need-too-long-requires
 too-long-requires c κs = search needs
 
 returns : tie.Need-returns
-unfolding standardGeometric
+unfolding draw standardGeometric
 returns c = simp (sym (c .before .too-long .ensures) ∙ c .if1 .taken)
 
 -- a tape that isn't too long is read
-is-read : (c : tie.Else1) → let ws = c .before .before .before .args .tape .now in standardGeometric ws ≡ reading standardRule ws
-unfolding standardGeometric
-is-read c = simp (sym (c .before .too-long .ensures) ∙ c .if1 .left) (ends-same (reading standardRule (c .before .before .before .args .tape .now)))
+is-read : (c : tie.Else1) → let ws = c .before .before .before .args .tape .now in draw standardGeometric ws ≡ reading standardRule ws
+unfolding draw standardGeometric
+is-read c = simp (sym (c .before .too-long .ensures) ∙ c .if1 .left) (ends-same shorts (reading standardRule (c .before .before .before .args .tape .now)))
 
 word-at-requires : tie.Need-word-at-requires
 word-at-requires c κs = search needs
@@ -44,7 +45,7 @@ returns-2 c =
 -- after the first word
 begun : (c : tie.After-known-told) →
     let ws = c .before .before .before .before .before .before .before .args .tape .now in
-    standardGeometric ws ≡ read standardRule (drop 1 ws) (addZeros 0 (c .before .w .given .0 .0)) 1
+    draw standardGeometric ws ≡ read standardRule (drop 1 ws) (addZeros 0 (c .before .w .given .0 .0)) 1
 begun c =
     let ws = c .before .before .before .before .before .before .before .args .tape .now in
     is-read (c .before .before .before .before)

@@ -2,6 +2,7 @@
 use borrow.Author.Needs.{needs}
 use mathlib.Core.Path.{_≡_, sym, ap, _∙_}
 use Rattle.words.specs.Outcome.{drawn}
+use Rattle.words.specs.Draw.{draw}
 use Rattle.hypergeometric.specs.Hypergeometric.{settled, setUpPaper, FromSetUp, hypergeometric}
 use Rattle.hypergeometric.proofs.Settling.{refused-draw, kept-draw}
 use Rattle.hypergeometric.proofs.sample.Statement.{statement}
@@ -11,7 +12,7 @@ too-long-requires : tie.Need-too-long-requires
 too-long-requires c κs = search needs
 
 returns : tie.Need-returns
-unfolding hypergeometric
+unfolding draw hypergeometric
 returns c = simp (sym (c .before .too-long .ensures) ∙ c .if1 .taken)
 
 set-up-requires : tie.Need-set-up-requires

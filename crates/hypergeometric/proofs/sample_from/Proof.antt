@@ -4,7 +4,8 @@ use mathlib.Core.Path.{sym, _∙_, subst}
 use Prim.Native.Nat.{ℕ, _≤_, min}
 use Rattle.words.specs.Rule.{reading}
 use Rattle.words.proofs.Reading.{read-done, read-at, read-end}
-use Rattle.words.proofs.Drawing.{ends-same}
+use Rattle.words.specs.Draw.{shorts, draw}
+use Rattle.words.proofs.Short.{ends-same}
 use Rattle.hypergeometric.specs.Hypergeometric.{counted, inversionRule}
 use Rattle.hypergeometric.proofs.Walks.{inverted≤}
 use Rattle.hypergeometric.proofs.Settling.{kept-small, kept-lands}
@@ -15,6 +16,7 @@ too-long-requires : tie.Need-too-long-requires
 too-long-requires c κs = search needs
 
 returns : tie.Need-returns
+unfolding draw
 returns c = simp (sym (c .before .too-long .ensures) ∙ c .if1 .taken)
 
 word-at-requires : tie.Need-word-at-requires
@@ -27,12 +29,13 @@ enum-told : tie.Need-enum-told
 enum-told c = search needs
 
 returns-2 : tie.Need-returns-2
+unfolding draw
 returns-2 c =
     let a = c .before .before .before .before .before .before .args in
     let e = sym (c .before .before .word-at .ensures) ∙ c .enum-told .given .1 in
     let o = reading (inversionRule (a .kept)) (a .tape .now) in
     simp (sym (c .before .before .before .before .too-long .ensures) ∙ c .before .before .before .if1 .left)
-    (sym (ends-same o ∙ read-end (inversionRule (a .kept)) (a .tape .now) 0 tt 0 e))
+    (sym (ends-same shorts o ∙ read-end (inversionRule (a .kept)) (a .tape .now) 0 tt 0 e))
 
 fraction-requires : tie.Need-fraction-requires
 fraction-requires c κs = search needs
@@ -48,7 +51,7 @@ land-requires c κs =
     (subst (λ (x : ℕ). x ≤ min (h .n1) (h .k)) (sym (c .invert .ensures)) (inverted≤ (h .n1) (h .n2) (h .k) (h .first) (c .before .fraction .result)))
 
 returns-3 : tie.Need-returns-3
-unfolding counted
+unfolding draw counted
 returns-3 c =
     let t = c .before .before .before .before in
     let s = t .before .before .before .before .before .before in
@@ -57,7 +60,7 @@ returns-3 c =
     let w = t .w .given .0 .0 in
     let e = sym (t .before .before .word-at .ensures) ∙ t .w .given .1 in
     simp (sym (t .before .before .before .before .too-long .ensures) ∙ t .before .before .before .if1 .left)
-    (sym (ends-same (reading r ws) ∙ read-at r ws 0 w tt 0 e ∙ read-done r _ _ _
+    (sym (ends-same shorts (reading r ws) ∙ read-at r ws 0 w tt 0 e ∙ read-done r _ _ _
     ∙ simp (← c .before .before .fraction .ensures, ← c .before .invert .ensures, ← c .land .ensures)))
 
 pub sample-from-spec : {M : Type 1} → statement M

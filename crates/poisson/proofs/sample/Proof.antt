@@ -3,7 +3,8 @@ use borrow.Author.Needs.{needs}
 use mathlib.Core.Path.{sym, _∙_}
 use lib.Ieee.{ofBits, round}
 use Rattle.words.specs.Rule.{reading}
-use Rattle.words.proofs.Drawing.{ends-same}
+use Rattle.words.specs.Draw.{shorts, draw}
+use Rattle.words.proofs.Short.{ends-same}
 use Rattle.poisson.specs.Poisson.{inRange, poisson, knuthRule}
 use Rattle.poisson.proofs.sample.Statement.{statement}
 use Rattle.poisson.proofs.sample.Tie as tie
@@ -12,26 +13,26 @@ too-long-requires : tie.Need-too-long-requires
 too-long-requires c κs = search needs
 
 returns : tie.Need-returns
-unfolding poisson
+unfolding draw poisson
 returns c = simp (sym (c .before .too-long .ensures) ∙ c .if1 .taken)
 
 knuth-method-requires : tie.Need-knuth-method-requires
 knuth-method-requires c κs = search needs
 
 returns-2 : tie.Need-returns-2
-unfolding poisson inRange ofBits round
+unfolding draw poisson inRange ofBits round
 returns-2 c =
     let a = c .before .before .before .before .before .before .args in
     c .knuth-method .ensures
     ∙ simp (sym (c .before .before .before .before .too-long .ensures) ∙ c .before .before .before .if1 .left, c .before .before .if2 .taken, c .before .if3 .taken)
-    (sym (ends-same (reading (knuthRule (a .exp-lambda)) (a .tape .now))))
+    (sym (ends-same shorts (reading (knuthRule (a .exp-lambda)) (a .tape .now))))
 
 returns-3 : tie.Need-returns-3
-unfolding poisson inRange ofBits round
+unfolding draw poisson inRange ofBits round
 returns-3 c = simp (sym (c .before .before .before .too-long .ensures) ∙ c .before .before .if1 .left, c .before .if2 .taken, c .if3 .left)
 
 returns-4 : tie.Need-returns-4
-unfolding poisson inRange ofBits round
+unfolding draw poisson inRange ofBits round
 returns-4 c = simp (sym (c .before .before .too-long .ensures) ∙ c .before .if1 .left, c .if2 .left)
 
 pub sample-spec : {M : Type 1} → statement M

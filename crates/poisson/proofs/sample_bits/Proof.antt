@@ -5,7 +5,8 @@ use native.Mathlib.Omega.{arith}
 use lib.Ieee.{binary64, ofBits}
 use Rattle.words.specs.Rule.{reading}
 use Rattle.words.proofs.Patterns.{float-of-bits}
-use Rattle.words.proofs.Drawing.{ends-same}
+use Rattle.words.specs.Draw.{shorts, draw}
+use Rattle.words.proofs.Short.{ends-same}
 use Rattle.poisson.specs.Poisson.{knuthRule, poisson}
 use Rattle.poisson.proofs.Laws.{bits-inside, bits-below, bits-above}
 use Rattle.poisson.proofs.sample_bits.Statement.{statement}
@@ -15,7 +16,7 @@ too-long-requires : tie.Need-too-long-requires
 too-long-requires c κs = search needs
 
 returns : tie.Need-returns
-unfolding poisson
+unfolding draw poisson
 returns c = simp (sym (c .before .too-long .ensures) ∙ c .if1 .taken)
 
 float-from-bits-knuth-method : tie.Need-float-from-bits-knuth-method
@@ -25,23 +26,23 @@ knuth-method-requires : tie.Need-knuth-method-requires
 knuth-method-requires c κs = search needs
 
 returns-2 : tie.Need-returns-2
-unfolding poisson
+unfolding draw poisson
 returns-2 c =
     let a = c .before .before .before .before .before .before .args in
     let within = sym (c .before .before .before .before .too-long .ensures) ∙ c .before .before .before .if1 .left in
     c .knuth-method .ensures
     ∙ simp (within, bits-inside (a .exp-lambda) (omega arith) (omega arith))
-    (sym (ends-same (reading (knuthRule (ofBits binary64 (a .exp-lambda))) (a .tape .now))))
+    (sym (ends-same shorts (reading (knuthRule (ofBits binary64 (a .exp-lambda))) (a .tape .now))))
 
 returns-3 : tie.Need-returns-3
-unfolding poisson
+unfolding draw poisson
 returns-3 c =
     let bits = c .before .before .before .before .before .args .exp-lambda in
     let within = sym (c .before .before .before .too-long .ensures) ∙ c .before .before .if1 .left in
     simp (within, bits-above bits (omega arith) (omega arith))
 
 returns-4 : tie.Need-returns-4
-unfolding poisson
+unfolding draw poisson
 returns-4 c =
     let bits = c .before .before .before .before .args .exp-lambda in
     let within = sym (c .before .before .too-long .ensures) ∙ c .before .if1 .left in

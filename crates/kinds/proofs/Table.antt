@@ -1,0 +1,102 @@
+-- Laws of the table of kinds: what one computed test over it says of every kind. Assumes nothing.
+use mathlib.Core.Path.{_≡_, refl, sym, ap, _∙_}
+use mathlib.Core.Bool.{Bool, true, false, cond, _&&_}
+use mathlib.Core.List.{List, [], _∷_}
+use mathlib.Core.Option.{Option, none, some}
+use Prim.Native.Nat.{ℕ, _+_, _*_, _≤_, _<_}
+use native.Mathlib.Omega.{arith}
+use lib.Dec.{eqb, ltb, leb}
+use borrow.Author.Tests.{eqb-true, ltb-true, leb-true}
+use Rattle.kinds.specs.declared.Request.{Request}
+use Rattle.kinds.specs.declared.Row.the-variants.{Of, Unknown}
+use Rattle.kinds.specs.Kinds.{Kind, table, numbered, kindOf, lengthIn, parametersIn, row}
+
+-- both tests are passed
+pub both-true : (a b : Bool) → a && b ≡ true → (a ≡ true) × (b ≡ true)
+both-true true b e = (refl, e)
+both-true false b e = let z : _≡_ {A = ℕ} 0 1 = cc in absurd (omega arith)
+
+-- ---- what a row tells
+
+-- the length and the parameters of the kind, and its request
+pub row-tells : (o : Option Kind) (a b c l n : ℕ) (q : Request) → Of l n q ≡ row o a b c → (l ≡ lengthIn o) × (n ≡ parametersIn o)
+row-tells none a b c l n q e = let z : _≡_ {A = ℕ} 0 1 = cc in absurd (omega arith)
+row-tells (some x) a b c l n q e = (cc, cc)
+
+-- or that there is no kind
+pub row-none : (o : Option Kind) (a b c : ℕ) → Unknown ≡ row o a b c → o ≡ none
+row-none none a b c e = refl
+row-none (some x) a b c e = let z : _≡_ {A = ℕ} 0 1 = cc in absurd (omega arith)
+
+-- ---- the test
+
+-- an entry is 24 bytes and 8 for each parameter, of which there are at most three; its number fits the two bytes that hold it
+isRegular : Kind → Bool
+isRegular x = eqb (x .length) (24 + 8 * x .parameters) && leb (x .parameters) 3 && ltb (x .number) 65536
+
+all : (Kind → Bool) → List Kind → Bool
+all f [] = true
+all f (x ∷ xs) = f x && all f xs
+
+-- the table, by one computation
+regular : all isRegular table ≡ true
+unfolding all isRegular
+regular = refl
+
+-- ---- what it says of each kind
+
+-- the kind x is the one of the table with the number k
+pub record Listed (k : ℕ) (x : Kind) : Type 0 where
+  pub number : x .number ≡ k
+  pub length : x .length ≡ 24 + 8 * x .parameters
+  pub few : x .parameters ≤ 3
+  pub small : k < 65536
+
+-- what a test over a list says of the kind that is found there
+found : (f : Kind → Bool) (xs : List Kind) (k : ℕ) (x : Kind) → all f xs ≡ true → numbered k xs ≡ some x → (x .number ≡ k) × (f x ≡ true)
+unfolding all numbered
+found f [] k x a e = let z : _≡_ {A = ℕ} 0 1 = cc in absurd (omega arith)
+found f (y ∷ ys) k x a e = go (found f ys k x (both-true (f y) (all f ys) a .1)) (eqb k (y .number)) refl e
+  where
+    go : (numbered k ys ≡ some x → (x .number ≡ k) × (f x ≡ true))
+        → (t : Bool) → eqb k (y .number) ≡ t → cond t (some y) (numbered k ys) ≡ some x → (x .number ≡ k) × (f x ≡ true)
+    go rest true t q =
+        let same : y ≡ x = cc in
+        (ap (λ (z : Kind). z .number) (sym same) ∙ sym (eqb-true k (y .number) t), ap f (sym same) ∙ both-true (f y) (all f ys) a .0)
+    go rest false t q = rest q
+
+pub listed : (k : ℕ) (x : Kind) → kindOf k ≡ some x → Listed k x
+unfolding kindOf isRegular
+listed k x e =
+    let h = found isRegular table k x regular e in
+    let t = both-true (eqb (x .length) (24 + 8 * x .parameters) && leb (x .parameters) 3) (ltb (x .number) 65536) (h .1) in
+    let u = both-true (eqb (x .length) (24 + 8 * x .parameters)) (leb (x .parameters) 3) (t .0) in
+    record {
+      number = h .0;
+      length = eqb-true (x .length) (24 + 8 * x .parameters) (u .0);
+      few = leb-true (x .parameters) 3 (u .1);
+      small = omega (arith, h .0, ltb-true (x .number) 65536 (t .1));
+    }
+
+-- ---- and of each number
+
+-- what holds where a number is no kind's, and of each kind that has it
+pub by-kind : (P : Option Kind → Type 0) (k : ℕ) → P none → ((x : Kind) → kindOf k ≡ some x → Listed k x → P (some x)) → P (kindOf k)
+by-kind P k p q = go (kindOf k) refl
+  where
+    go : (o : Option Kind) → kindOf k ≡ o → P o
+    go none e = p
+    go (some x) e = q x e (listed k x e)
+
+-- a kind's entry is 24 bytes, and 8 for each parameter
+pub shape-length : (k : ℕ) → 0 < lengthIn (kindOf k) → lengthIn (kindOf k) ≡ 24 + 8 * parametersIn (kindOf k)
+shape-length k =
+    by-kind (λ o. 0 < lengthIn o → lengthIn o ≡ 24 + 8 * parametersIn o) k (λ h. absurd (omega arith)) (λ x e l h. l .length)
+
+-- every length fits the two bytes that hold it
+pub length-small : (k : ℕ) → lengthIn (kindOf k) < 65536
+length-small k = by-kind (λ o. lengthIn o < 65536) k (omega arith) (λ x e l. omega (arith, l .length, l .few))
+
+-- a number with a length is a kind's
+pub known : (k : ℕ) → 0 < lengthIn (kindOf k) → (x : Kind) × (kindOf k ≡ some x)
+known k h = by-kind (λ o. 0 < lengthIn o → (x : Kind) × (o ≡ some x)) k (λ n. absurd (omega arith)) (λ x e l n. (x, refl)) h

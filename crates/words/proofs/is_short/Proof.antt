@@ -1,0 +1,9 @@
+-- `words::is_short` meets its contract: the list, number by number, and no other number. Assumes nothing.
+use borrow.Author.Tests.{ne-eqb}
+use Rattle.words.specs.Draw.{isOn}
+use Rattle.words.proofs.is_short.Statement.{statement}
+use Rattle.words.proofs.is_short.Tie as tie
+
+pub is-short-spec : {M : Type 1} → statement M
+unfolding isOn
+is-short-spec = tie.close (tie.spec (λ c. rw (c .match .keys1)) (λ c. rw (ne-eqb _ _ (c .match .rest .1))))
