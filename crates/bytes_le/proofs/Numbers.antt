@@ -96,6 +96,22 @@ pub write-done : (l d : List ℕ) (k at i v : ℕ) → i ≤ k → k ≤ i → s
 unfolding bytesOf
 write-done l d k at i v h h' e = let n : k - i ≡ 0 = omega arith in rw n at e
 
+-- ---- words one after another
+
+pub length-words : (k : ℕ) (l : List ℕ) → length (wordsFrom k l) ≡ k
+unfolding wordsFrom
+length-words zero l = refl
+length-words (suc k) l = ap suc (length-words k (drop 8 l))
+
+-- the word i stands 8 bytes after the one before
+pub word-at : (k : ℕ) (l : List ℕ) (i : ℕ) → i < k → getD (wordsFrom k l) i 0 ≡ spelled 8 (drop (8 * i) l)
+unfolding wordsFrom
+word-at zero l i h = absurd (not-suc-le-zero h)
+word-at (suc k) l zero h = refl
+word-at (suc k) l (suc i) h =
+    let e : 8 + 8 * i ≡ 8 * suc i = omega arith in
+    word-at k (drop 8 l) i (le-of-suc-le-suc h) ∙ ap (spelled 8) (drop-drop (8 * i) 8 l ∙ ap (λ (m : ℕ). drop m l) e)
+
 -- ---- a turn of the loop that reads words
 
 pub words-turn : (t l : List ℕ) (k at i w : ℕ) → i < k → w ≡ spelled 8 (drop (8 * i) l)

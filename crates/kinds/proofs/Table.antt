@@ -97,6 +97,10 @@ shape-length k =
 pub length-small : (k : ℕ) → lengthIn (kindOf k) < 65536
 length-small k = by-kind (λ o. lengthIn o < 65536) k (omega arith) (λ x e l. omega (arith, l .length, l .few))
 
+-- a kind has at most three parameters
+pub parameters-few : (k : ℕ) → parametersIn (kindOf k) ≤ 3
+parameters-few k = by-kind (λ o. parametersIn o ≤ 3) k (omega arith) (λ x e l. l .few)
+
 -- a number with a length is a kind's
 pub known : (k : ℕ) → 0 < lengthIn (kindOf k) → (x : Kind) × (kindOf k ≡ some x)
 known k h = by-kind (λ o. 0 < lengthIn o → (x : Kind) × (o ≡ some x)) k (λ n. absurd (omega arith)) (λ x e l n. (x, refl)) h

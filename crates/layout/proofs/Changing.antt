@@ -6,7 +6,7 @@ use native.Mathlib.Omega.{arith}
 use lib.ListN.{length, take, drop, replicate, length-append, length-replicate, replicate-append-replicate}
 use lib.Seq.{drop-at, take-at, sets, sets-eq, drop-append-add}
 use Rattle.bytes_le.specs.Zeros.{wiped}
-use Rattle.layout.specs.Kinds.{lengthOf}
+use Rattle.kinds.specs.Kinds.{lengthOf}
 use Rattle.layout.specs.Entry.{Entry, entryBytes}
 use Rattle.layout.specs.Book.{entriesBytes, lengthAll, usedAll, encode}
 use Rattle.layout.proofs.Entries.{Fits, length-entry}

@@ -14,11 +14,12 @@ use Rattle.bytes_le.proofs.Numbers.{Bytes, bytes-drop, spelled-zeros}
 use Rattle.bytes_le.proofs.Zeros.{zeros-are, are-zeros}
 use Rattle.layout.specs.declared.Head.{Head}
 use Rattle.layout.specs.declared.Head.the-variants.{End, Damage, Next}
-use Rattle.layout.specs.Kinds.{shapeOf, lengthIn, lengthOf}
-use Rattle.layout.specs.Entry.{Entry, entryBytes, lengthAt, kindAt, serialAt, placeAt, entryAt}
-use Rattle.layout.specs.Book.{entriesBytes, lengthAll, usedAll, encode, isEnd, isFitting, head, onHead, isClosed, decodeFrom, decode}
-use Rattle.layout.proofs.Table.{request-length}
-use Rattle.layout.proofs.Entries.{Fits, length-entry, entry-read, length-read, kind-read, serial-read, place-read, rest-read, entry-fits, entry-length, entry-written}
+use Rattle.kinds.specs.declared.Request.{Request}
+use Rattle.kinds.specs.Kinds.{kindOf, lengthIn, lengthOf}
+use Rattle.kinds.proofs.Requests.{request-length}
+use Rattle.layout.specs.Entry.{Entry, entryBytes, lengthAt, kindAt, serialAt, placeAt, usedAt, requestAt, entryOf, entryAt}
+use Rattle.layout.specs.Book.{entriesBytes, lengthAll, usedAll, encode, isEnd, isFitting, head, onHead, isClosed, joined, decodeFrom, decode}
+use Rattle.layout.proofs.Entries.{Fits, length-entry, entry-read, length-read, kind-read, serial-read, place-read, used-read, rest-read, request-there, entry-there, entry-fits, entry-length, entry-written}
 
 -- a test's two cases, with what it says
 pub by-test {ℓ κ} : {X : Type ℓ} (P : X → Type κ) (b : Bool) {x y : X} → (b ≡ true → P x) → (b ≡ false → P y) → P (cond b x y)
@@ -39,7 +40,7 @@ neither-holds false b e = (refl, e)
 pub record Fitting (s p : ℕ) (l : List ℕ) : Type 0 where
   pub begins : 2 ≤ length l
   pub nonzero : lengthAt l 0 ≡ 0 → ⊥
-  pub sized : lengthAt l 0 ≡ lengthIn (shapeOf (kindAt l 0))
+  pub sized : lengthAt l 0 ≡ lengthIn (kindOf (kindAt l 0))
   pub inside : lengthAt l 0 ≤ length l
   pub due : serialAt l 0 ≡ s
   pub placed : placeAt l 0 ≡ p
@@ -55,7 +56,7 @@ module _ (s p : ℕ) (l : List ℕ) where
       rw (
         le-ltb (length l) 2 (f .begins),
         ne-eqb (lengthAt l 0) 0 (f .nonzero),
-        eq-eqb (lengthAt l 0) (lengthIn (shapeOf (kindAt l 0))) (f .sized),
+        eq-eqb (lengthAt l 0) (lengthIn (kindOf (kindAt l 0))) (f .sized),
         le-leb (lengthAt l 0) (length l) (f .inside),
         eq-eqb (serialAt l 0) s (f .due),
         eq-eqb (placeAt l 0) p (f .placed),
@@ -66,11 +67,11 @@ module _ (s p : ℕ) (l : List ℕ) where
       let more = neither-holds (ltb (length l) 2) (eqb (lengthAt l 0) 0) e in
       let a = both-hold (isFitting l && eqb (serialAt l 0) s) (eqb (placeAt l 0) p) f in
       let b = both-hold (isFitting l) (eqb (serialAt l 0) s) (a .0) in
-      let c = both-hold (eqb (lengthAt l 0) (lengthIn (shapeOf (kindAt l 0)))) (leb (lengthAt l 0) (length l)) (b .0) in
+      let c = both-hold (eqb (lengthAt l 0) (lengthIn (kindOf (kindAt l 0)))) (leb (lengthAt l 0) (length l)) (b .0) in
       record {
         begins = ltb-false (length l) 2 (more .0);
         nonzero = eqb-false (lengthAt l 0) 0 (more .1);
-        sized = eqb-true (lengthAt l 0) (lengthIn (shapeOf (kindAt l 0))) (c .0);
+        sized = eqb-true (lengthAt l 0) (lengthIn (kindOf (kindAt l 0))) (c .0);
         inside = leb-true (lengthAt l 0) (length l) (c .1);
         due = eqb-true (serialAt l 0) s (b .1);
         placed = eqb-true (placeAt l 0) p (a .1);
@@ -85,11 +86,15 @@ module _ (s p : ℕ) (l : List ℕ) where
       (λ _ q. let z : _≡_ {A = ℕ} 0 1 = cc in absurd (omega arith)))
 
   -- an entry of the table's kinds
-  pub fitting-known : Fitting s p l → 0 < lengthIn (shapeOf (kindAt l 0))
+  pub fitting-known : Fitting s p l → 0 < lengthIn (kindOf (kindAt l 0))
   fitting-known f = omega (arith, f .nonzero, f .sized)
 
-  pub fitting-size : Bytes l → Fitting s p l → lengthOf (entryAt l 0 .request) ≡ lengthAt l 0
-  fitting-size by f = entry-length l by (fitting-known f) ∙ sym (f .sized)
+  -- with a request, whose length is the one that stands there
+  pub fitting-request : Fitting s p l → (q : Request) × (requestAt l 0 ≡ some q)
+  fitting-request f = request-there l (fitting-known f)
+
+  pub fitting-size : Bytes l → Fitting s p l → (q : Request) → requestAt l 0 ≡ some q → lengthOf q ≡ lengthAt l 0
+  fitting-size by f q asked = entry-length l by q asked ∙ sym (f .sized)
 
 -- every entry has 24 bytes or more
 pub length-least : (e : Entry) → 24 ≤ lengthOf (e .request)
@@ -102,7 +107,7 @@ entry-fitting e r fits =
     record {
       begins = omega (arith, all, length-least e);
       nonzero = λ z. omega (arith, len, length-least e);
-      sized = len ∙ ap (λ (k : ℕ). lengthIn (shapeOf k)) (sym (kind-read e r fits));
+      sized = len ∙ ap (λ (k : ℕ). lengthIn (kindOf k)) (sym (kind-read e r fits));
       inside = omega (arith, all, len);
       due = serial-read e r fits;
       placed = place-read e r fits;
@@ -129,7 +134,7 @@ decodes-from (e ∷ es) (suc f) t s p n c h u =
     let hd : head s p (entryBytes e ++ r) ≡ Next =
     ap₂ (λ (a b : ℕ). head a b (entryBytes e ++ r)) (sym (c .0 .1 .0)) (sym (c .0 .1 .1)) ∙ head-fitting (e .serial) (e .place) (entryBytes e ++ r) (entry-fitting e r fits) in
     let rest : decodeFrom f t (s + 1) (p + e .used) r ≡ some es = decodes-from es f t (s + 1) (p + e .used) n (c .1) (le-of-suc-le-suc h) (omega arith) in
-    rw (append-assoc (entryBytes e) (entriesBytes es) (replicate n 0), hd, rest-read e r fits, entry-read e r fits, rest)
+    rw (append-assoc (entryBytes e) (entriesBytes es) (replicate n 0), hd, rest-read e r fits, entry-read e r fits, used-read e r fits, rest)
 
 pub length-entries : (es : List Entry) → length (entriesBytes es) ≡ lengthAll es
 unfolding entriesBytes lengthAll
@@ -189,24 +194,23 @@ ended t s p l es =
     rw e (nothing-written t s p l (leb-true p t (z .0)) (z .1)))
     (λ _ q. let z : _≡_ {A = ℕ} 0 1 = cc in absurd (omega arith))
 
-one-more : (t s p : ℕ) (l : List ℕ) (fs : List Entry) → Bytes l → Fitting s p l
-    → Written t (s + 1) (p + entryAt l 0 .used) (drop (lengthAt l 0) l) fs → Written t s p l (entryAt l 0 ∷ fs)
+one-more : (t s p : ℕ) (l : List ℕ) (fs : List Entry) → Bytes l → Fitting s p l → (q : Request) → requestAt l 0 ≡ some q
+    → Written t (s + 1) (p + usedAt l 0) (drop (lengthAt l 0) l) fs → Written t s p l (entryOf q l 0 ∷ fs)
 unfolding lengthAll usedAll entriesBytes
-one-more t s p l fs by ft wr =
-    let known = fitting-known s p l ft in
-    let size : lengthOf (entryAt l 0 .request) ≡ lengthAt l 0 = fitting-size s p l by ft in
+one-more t s p l fs by ft q asked wr =
+    let size : lengthOf q ≡ lengthAt l 0 = fitting-size s p l by ft q asked in
     let left : length (drop (lengthAt l 0) l) ≡ length l - lengthAt l 0 = length-drop (lengthAt l 0) l in
     let k : ℕ = length (drop (lengthAt l 0) l) - lengthAll fs in
     record {
-      chain = ((entry-fits l by known, unfold entryAt in (ft .due, ft .placed)), wr .chain);
+      chain = ((entry-fits l by q asked, (ft .due, ft .placed)), wr .chain);
       tape = omega arith;
       room = omega (arith, ft .inside);
       bytes =
           sym (take-append-drop (lengthAt l 0) l)
-          ∙ ap₂ (λ (a b : List ℕ). a ++ b) (sym (entry-written l by known (ft .sized) (ft .inside))) (wr .bytes)
-          ∙ sym (append-assoc (entryBytes (entryAt l 0)) (entriesBytes fs) (replicate k 0))
-          ∙ ap (λ (z : List ℕ). (entryBytes (entryAt l 0) ++ entriesBytes fs) ++ z)
-          (zeros-equal k (length l - (lengthOf (entryAt l 0 .request) + lengthAll fs)) (omega (arith, ft .inside, wr .room)));
+          ∙ ap₂ (λ (a b : List ℕ). a ++ b) (sym (entry-written l by q asked (ft .sized) (ft .inside))) (wr .bytes)
+          ∙ sym (append-assoc (entryBytes (entryOf q l 0)) (entriesBytes fs) (replicate k 0))
+          ∙ ap (λ (z : List ℕ). (entryBytes (entryOf q l 0) ++ entriesBytes fs) ++ z)
+          (zeros-equal k (length l - (lengthOf q + lengthAll fs)) (omega (arith, ft .inside, wr .room)));
     }
 
 written-from : (f t s p : ℕ) (l : List ℕ) (es : List Entry) → Bytes l → decodeFrom f t s p l ≡ some es → Written t s p l es
@@ -217,11 +221,13 @@ written-from (suc f) t s p l es by q =
     (λ _ e. ended t s p l es e)
     (λ _ e. let z : _≡_ {A = ℕ} 0 1 = cc in absurd (omega arith))
     (λ h e.
-    by-entry (entryAt l 0) _ es e
+    let ft = head-next s p l h in
+    let r = fitting-request s p l ft in
+    by-entry (entryOf (r .0) l 0) _ es (rw (entry-there l 0 (r .0) (r .1)) at e)
     (λ fs d j.
     rw j
-    (one-more t s p l fs by (head-next s p l h)
-    (written-from f t (s + 1) (p + entryAt l 0 .used) (drop (lengthAt l 0) l) fs (bytes-drop l (lengthAt l 0) by) d))))
+    (one-more t s p l fs by ft (r .0) (r .1)
+    (written-from f t (s + 1) (p + usedAt l 0) (drop (lengthAt l 0) l) fs (bytes-drop l (lengthAt l 0) by) d))))
 
 module _ (t : ℕ) (b : List ℕ) (es : List Entry) (by : Bytes b) (so : decode t b ≡ some es) where
   pub written : Written t 1 0 b es

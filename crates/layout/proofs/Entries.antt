@@ -1,15 +1,18 @@
 -- Laws of one entry: what was written is read, and what was read is written. Assumes nothing.
 use mathlib.Core.Path.{_≡_, refl, sym, ap, ap₂, _∙_}
 use mathlib.Core.List.{List, [], _∷_, _++_, append-assoc}
+use mathlib.Core.Option.{Option, some, Option·map}
 use Prim.Native.Nat.{ℕ, zero, suc, _+_, _*_, _^_, _<_, _≤_}
 use native.Mathlib.Omega.{arith}
 use lib.ListN.{length, take, drop, length-append, length-drop}
 use lib.Seq.{drop-at, take-add, drop-drop}
 use Rattle.bytes_le.specs.LittleEndian.{bytesOf, spelled, wordsFrom}
-use Rattle.bytes_le.proofs.Numbers.{Bytes, bytes-drop, length-bytes, spelled-bytes, spelled-lt, bytes-spelled}
-use Rattle.layout.specs.Kinds.{shapeOf, lengthIn, parametersIn, kindNumber, parametersOf, lengthOf, requestOf, AllFit, RequestFits}
-use Rattle.layout.specs.Entry.{Entry, parameterBytes, fixedBytes, entryBytes, lengthAt, kindAt, serialAt, placeAt, usedAt, countAt, parametersAt, entryAt}
-use Rattle.layout.proofs.Table.{shape-length, length-small, request-shape, request-length, request-again, kind-fits, kind-again}
+use Rattle.bytes_le.proofs.Numbers.{Bytes, bytes-drop, length-bytes, spelled-bytes, spelled-lt, bytes-spelled, length-words}
+use Rattle.kinds.specs.declared.Request.{Request}
+use Rattle.kinds.specs.Kinds.{kindOf, lengthIn, parametersIn, kindNumber, parametersOf, lengthOf, requestOf, AllFit, RequestFits}
+use Rattle.kinds.proofs.Table.{shape-length, length-small}
+use Rattle.kinds.proofs.Requests.{request-known, request-shape, request-length, request-again, kind-fits, kind-again, known-request}
+use Rattle.layout.specs.Entry.{Entry, parameterBytes, fixedBytes, entryBytes, lengthAt, kindAt, serialAt, placeAt, usedAt, countAt, parametersAt, requestAt, entryOf, entryAt}
 
 -- an entry's numbers fit their fields
 pub record Fits (e : Entry) : Type 0 where
@@ -86,25 +89,27 @@ module _ (e : Entry) (r : List ℕ) (fits : Fits e) where
   unfolding fields bytesOf
   read-count = spelled-bytes 8 (e .count) _ (fits .count-fits)
 
-  read-rest : wordsFrom (parametersIn (shapeOf (kindNumber (e .request)))) (drop 24 (fields e r)) ≡ parametersOf (e .request)
+  read-rest : wordsFrom (parametersIn (kindOf (kindNumber (e .request)))) (drop 24 (fields e r)) ≡ parametersOf (e .request)
   unfolding fields bytesOf
   read-rest =
       ap (λ (k : ℕ). wordsFrom k (parameterBytes (parametersOf (e .request)) ++ r)) (sym (request-shape (e .request)))
       ∙ read-parameters (parametersOf (e .request)) r (fits .request-fits)
 
-  read-request : requestOf (kindAt (fields e r) 0) (parametersAt (fields e r) 0) ≡ e .request
+  read-request : requestAt (fields e r) 0 ≡ some (e .request)
   read-request =
-      ap (λ (k : ℕ). requestOf k (wordsFrom (parametersIn (shapeOf k)) (drop 24 (fields e r)))) read-kind
+      ap (λ (k : ℕ). requestOf k (wordsFrom (parametersIn (kindOf k)) (drop 24 (fields e r)))) read-kind
       ∙ ap (requestOf (kindNumber (e .request))) read-rest
       ∙ request-again (e .request)
 
-  read-fields : entryAt (fields e r) 0 ≡ e
+  read-others : entryOf (e .request) (fields e r) 0 ≡ e
+  read-others = λ i. record { request = e .request; serial = read-serial i; place = read-place i; used = read-used i; count = read-count i }
+
+  read-fields : entryAt (fields e r) 0 ≡ some e
   unfolding entryAt
-  read-fields = λ i.
-      record { request = read-request i; serial = read-serial i; place = read-place i; used = read-used i; count = read-count i }
+  read-fields = ap (Option·map (λ (q : Request). entryOf q (fields e r) 0)) read-request ∙ ap some read-others
 
   -- an entry's bytes are read as the entry, whatever follows them
-  pub entry-read : entryAt (entryBytes e ++ r) 0 ≡ e
+  pub entry-read : entryAt (entryBytes e ++ r) 0 ≡ some e
   entry-read = ap (λ (l : List ℕ). entryAt l 0) (as-fields e r) ∙ read-fields
 
   pub length-read : lengthAt (entryBytes e ++ r) 0 ≡ lengthOf (e .request)
@@ -118,6 +123,9 @@ module _ (e : Entry) (r : List ℕ) (fits : Fits e) where
 
   pub place-read : placeAt (entryBytes e ++ r) 0 ≡ e .place
   place-read = ap (λ (l : List ℕ). placeAt l 0) (as-fields e r) ∙ read-place
+
+  pub used-read : usedAt (entryBytes e ++ r) 0 ≡ e .used
+  used-read = ap (λ (l : List ℕ). usedAt l 0) (as-fields e r) ∙ read-used
 
   pub rest-read : drop (lengthAt (entryBytes e ++ r) 0) (entryBytes e ++ r) ≡ r
   rest-read = ap (λ (k : ℕ). drop k (entryBytes e ++ r)) length-read ∙ drop-at (entryBytes e) r (lengthOf (e .request)) (length-entry e)
@@ -138,61 +146,62 @@ unfolding wordsFrom
 parameters-fit zero l h = tt
 parameters-fit (suc k) l h = (spelled-lt 8 l h, parameters-fit k (drop 8 l) (bytes-drop l 8 h))
 
-length-words : (k : ℕ) (l : List ℕ) → length (wordsFrom k l) ≡ k
-unfolding wordsFrom
-length-words zero l = refl
-length-words (suc k) l = ap suc (length-words k (drop 8 l))
-
 -- a field read and written again is the bytes that were there
 field : (k i : ℕ) (l : List ℕ) → Bytes l → i + k ≤ length l → bytesOf k (spelled k (drop i l)) ≡ take k (drop i l)
 field k i l h f = bytes-spelled k (drop i l) (bytes-drop l i h) (rw length-drop (omega arith))
 
--- bytes at whose front an entry of one of the table's kinds lies whole
-module _ (l : List ℕ) (by : Bytes l) (known : 0 < lengthIn (shapeOf (kindAt l 0))) where
+-- bytes at whose front a kind of the table stands have a request there
+pub request-there : (l : List ℕ) → 0 < lengthIn (kindOf (kindAt l 0)) → (q : Request) × (requestAt l 0 ≡ some q)
+request-there l known = known-request (kindAt l 0) (parametersAt l 0) known
+
+-- and with it an entry
+pub entry-there : (l : List ℕ) (i : ℕ) (q : Request) → requestAt l i ≡ some q → entryAt l i ≡ some (entryOf q l i)
+unfolding entryAt
+entry-there l i q asked = ap (Option·map (λ (x : Request). entryOf x l i)) asked
+
+module _ (l : List ℕ) (by : Bytes l) (q : Request) (asked : requestAt l 0 ≡ some q) where
   abbrev kind : ℕ
   kind = kindAt l 0
 
-  again : (kindNumber (entryAt l 0 .request) ≡ kindAt l 0) × (parametersOf (entryAt l 0 .request) ≡ parametersAt l 0)
-  unfolding entryAt
-  again = kind-again kind (parametersAt l 0) known (length-words (parametersIn (shapeOf kind)) (drop 24 l))
+  again : (kindNumber q ≡ kindAt l 0) × (parametersOf q ≡ parametersAt l 0)
+  again = kind-again kind (parametersAt l 0) q (length-words (parametersIn (kindOf kind)) (drop 24 l)) asked
 
   -- its numbers fit their fields
-  pub entry-fits : Fits (entryAt l 0)
-  unfolding entryAt
+  pub entry-fits : Fits (entryOf q l 0)
   entry-fits =
       record {
-        request-fits = rw (again .1) (parameters-fit (parametersIn (shapeOf kind)) (drop 24 l) (bytes-drop l 24 by));
+        request-fits = rw (again .1) (parameters-fit (parametersIn (kindOf kind)) (drop 24 l) (bytes-drop l 24 by));
         serial-fits = spelled-lt 4 (drop 4 l) (bytes-drop l 4 by);
         place-fits = spelled-lt 4 (drop 8 l) (bytes-drop l 8 by);
         used-fits = spelled-lt 4 (drop 12 l) (bytes-drop l 12 by);
         count-fits = spelled-lt 8 (drop 16 l) (bytes-drop l 16 by);
       }
 
-  pub entry-length : lengthOf (entryAt l 0 .request) ≡ lengthIn (shapeOf (kindAt l 0))
-  entry-length = ap (λ (k : ℕ). lengthIn (shapeOf k)) (again .0)
+  pub entry-length : lengthOf q ≡ lengthIn (kindOf (kindAt l 0))
+  entry-length = ap (λ (k : ℕ). lengthIn (kindOf k)) (again .0)
 
   -- what was read and is written again
-  module _ (sized : lengthAt l 0 ≡ lengthIn (shapeOf (kindAt l 0))) (inside : lengthAt l 0 ≤ length l) where
+  module _ (sized : lengthAt l 0 ≡ lengthIn (kindOf (kindAt l 0))) (inside : lengthAt l 0 ≤ length l) where
     abbrev n : ℕ
-    n = parametersIn (shapeOf kind)
+    n = parametersIn (kindOf kind)
 
     long : lengthAt l 0 ≡ 24 + 8 * n
-    long = sized ∙ shape-length kind known
+    long = sized ∙ shape-length kind (rw entry-length at (request-known q))
 
     -- the k bytes from i on and the m after them are the k + m from i on
     glue : (i k m : ℕ) → take k (drop i l) ++ take m (drop (i + k) l) ≡ take (k + m) (drop i l)
     glue i k m = ap (λ (x : List ℕ). take k (drop i l) ++ take m x) (sym (drop-drop k i l)) ∙ sym (take-add k m (drop i l))
 
-    fixed-written : fixedBytes (entryAt l 0) ≡ take 24 l
-    unfolding fixedBytes entryAt
+    fixed-written : fixedBytes (entryOf q l 0) ≡ take 24 l
+    unfolding fixedBytes
     fixed-written =
         let room : 24 + 8 * n ≤ length l = omega (arith, long, inside) in
-        let f0 : bytesOf 2 (lengthOf (entryAt l 0 .request)) ≡ take 2 l = ap (bytesOf 2) (entry-length ∙ sym sized) ∙ bytes-spelled 2 l by (omega arith) in
-        let f1 : bytesOf 2 (kindNumber (entryAt l 0 .request)) ≡ take 2 (drop 2 l) = ap (bytesOf 2) (again .0) ∙ field 2 2 l by (omega arith) in
+        let f0 : bytesOf 2 (lengthOf q) ≡ take 2 l = ap (bytesOf 2) (entry-length ∙ sym sized) ∙ bytes-spelled 2 l by (omega arith) in
+        let f1 : bytesOf 2 (kindNumber q) ≡ take 2 (drop 2 l) = ap (bytesOf 2) (again .0) ∙ field 2 2 l by (omega arith) in
         rw (f0, f1, field 4 4 l by (omega arith), field 4 8 l by (omega arith), field 4 12 l by (omega arith), field 8 16 l by (omega arith))
         (rw (glue 12 4 8, glue 8 4 12, glue 4 4 16, glue 2 2 20) (sym (take-add 2 22 l)))
 
-    pub entry-written : entryBytes (entryAt l 0) ≡ take (lengthAt l 0) l
+    pub entry-written : entryBytes (entryOf q l 0) ≡ take (lengthAt l 0) l
     unfolding entryBytes
     entry-written =
         let room : 24 + 8 * n ≤ length l = omega (arith, long, inside) in

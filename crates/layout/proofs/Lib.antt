@@ -1,4 +1,3 @@
-pub mod Table
 pub mod Entries
 pub mod Decoding
 pub mod Positions

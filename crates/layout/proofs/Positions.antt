@@ -9,12 +9,12 @@ use lib.ListN.{length, getD, take, drop, replicate, take-append-drop}
 use lib.Seq.{split-at, drop-drop, drop-at, take-suc, take-length, length-take-le}
 use Rattle.bytes_le.specs.LittleEndian.{spelled}
 use Rattle.bytes_le.proofs.Numbers.{Bytes}
-use Rattle.layout.specs.Kinds.{shapeOf, lengthIn, kindNumber, lengthOf}
+use Rattle.kinds.specs.Kinds.{kindOf, lengthIn, kindNumber, lengthOf}
 use Rattle.layout.specs.Entry.{Entry, entryBytes, lengthAt, kindAt, serialAt, placeAt, usedAt, entryAt}
 use Rattle.layout.specs.Book.{entriesBytes, lengthAll, usedAll, decode}
 use Rattle.layout.specs.Sound.{offset, usedBefore}
 use Rattle.layout.specs.Places.{HasEntry, Reaches}
-use Rattle.layout.proofs.Entries.{Fits, entry-read, length-read, kind-read}
+use Rattle.layout.proofs.Entries.{Fits, entry-read, length-read, kind-read, serial-read, place-read, used-read}
 use Rattle.layout.proofs.Decoding.{Chain, Written, written, length-least, length-entries}
 
 -- ---- entries one after another
@@ -98,7 +98,7 @@ module _ (t : ℕ) (b : List ℕ) (es : List Entry) (by : Bytes b) (so : decode 
     front : drop at b ≡ entryBytes e ++ after
     front = ap (drop at) parts ∙ drop-at (entriesBytes (take i es)) (entryBytes e ++ after) at (length-entries (take i es))
 
-    read-here : entryAt b at ≡ e
+    read-here : entryAt b at ≡ some e
     read-here = entry-at b at ∙ ap (λ (l : List ℕ). entryAt l 0) front ∙ entry-read e after (mid .0)
 
     length-here : lengthAt b at ≡ lengthOf (e .request)
@@ -106,6 +106,15 @@ module _ (t : ℕ) (b : List ℕ) (es : List Entry) (by : Bytes b) (so : decode 
 
     kind-here : kindAt b at ≡ kindNumber (e .request)
     kind-here = ap (spelled 2) (sym (drop-drop 2 at b)) ∙ ap (λ (l : List ℕ). kindAt l 0) front ∙ kind-read e after (mid .0)
+
+    serial-here : serialAt b at ≡ e .serial
+    serial-here = ap (spelled 4) (sym (drop-drop 4 at b)) ∙ ap (λ (l : List ℕ). serialAt l 0) front ∙ serial-read e after (mid .0)
+
+    place-here : placeAt b at ≡ e .place
+    place-here = ap (spelled 4) (sym (drop-drop 8 at b)) ∙ ap (λ (l : List ℕ). placeAt l 0) front ∙ place-read e after (mid .0)
+
+    used-there : usedAt b at ≡ e .used
+    used-there = ap (spelled 4) (sym (drop-drop 12 at b)) ∙ ap (λ (l : List ℕ). usedAt l 0) front ∙ used-read e after (mid .0)
 
     next-here : lengthAll (take (suc i) es) ≡ at + lengthOf (e .request)
     next-here = ap lengthAll (take-suc es i d h) ∙ length-all-append (take i es) (e ∷ []) ∙ ap (λ (k : ℕ). at + k) (length-one e)
@@ -136,7 +145,7 @@ module _ (t : ℕ) (b : List ℕ) (es : List Entry) (by : Bytes b) (so : decode 
     low = lies-offset i (omega arith)
 
     -- the entry that stands there
-    pub lies-entry : entryAt b (offset b i) ≡ getD es i d
+    pub lies-entry : entryAt b (offset b i) ≡ some (getD es i d)
     lies-entry = ap (entryAt b) low ∙ read-here i h
 
     pub lies-length : lengthAt b (offset b i) ≡ lengthOf (getD es i d .request)
@@ -150,20 +159,17 @@ module _ (t : ℕ) (b : List ℕ) (es : List Entry) (by : Bytes b) (so : decode 
 
     pub lies-whole : HasEntry b (offset b i)
     lies-whole =
-        let size : lengthIn (shapeOf (kindAt b (offset b i))) ≡ lengthOf (getD es i d .request) = ap (λ (k : ℕ). lengthIn (shapeOf k)) lies-kind in
+        let size : lengthIn (kindOf (kindAt b (offset b i))) ≡ lengthOf (getD es i d .request) = ap (λ (k : ℕ). lengthIn (kindOf k)) lies-kind in
         record { known = omega (arith, size, length-least (getD es i d)); room = omega (arith, size, lies-within) }
 
     pub lies-serial : serialAt b (offset b i) ≡ suc i
-    unfolding entryAt
-    lies-serial = ap (λ (x : Entry). x .serial) lies-entry ∙ omega (arith, mid i h .1 .0, length-take-le i es (omega arith))
+    lies-serial = ap (serialAt b) low ∙ serial-here i h ∙ omega (arith, mid i h .1 .0, length-take-le i es (omega arith))
 
     pub lies-place : placeAt b (offset b i) ≡ usedAll (take i es)
-    unfolding entryAt
-    lies-place = ap (λ (x : Entry). x .place) lies-entry ∙ omega (arith, mid i h .1 .1)
+    lies-place = ap (placeAt b) low ∙ place-here i h ∙ omega (arith, mid i h .1 .1)
 
     pub lies-used : usedAll (take (suc i) es) ≡ usedAll (take i es) + usedAt b (offset b i)
-    unfolding entryAt
-    lies-used = used-here i h ∙ ap (λ (k : ℕ). usedAll (take i es) + k) (sym (ap (λ (x : Entry). x .used) lies-entry))
+    lies-used = used-here i h ∙ ap (λ (k : ℕ). usedAll (take i es) + k) (sym (ap (usedAt b) low ∙ used-there i h))
 
     -- its place is on the tape
     pub lies-on-tape : placeAt b (offset b i) ≤ t

@@ -15,13 +15,15 @@ use borrow.Author.Tests.{lt-ltb, le-leb, eq-eqb}
 use Rattle.bytes_le.specs.LittleEndian.{spelled}
 use Rattle.bytes_le.specs.Zeros.{allZero}
 use Rattle.bytes_le.proofs.Numbers.{Bytes, spelled-zeros}
-use Rattle.draws.specs.declared.Request.the-variants.{StandardGeometric}
-use Rattle.layout.specs.Kinds.{shapeOf, lengthIn}
-use Rattle.layout.specs.Entry.{Entry, booking, lengthAt, kindAt, usedAt, entryAt}
-use Rattle.layout.specs.Book.{entriesBytes, lengthAll, usedAll, isEnd, decodeFrom, decode}
+use Rattle.kinds.specs.declared.Request.{Request}
+use Rattle.kinds.specs.declared.Request.the-variants.{StandardGeometric}
+use Rattle.kinds.specs.Kinds.{kindOf, lengthIn}
+use Rattle.kinds.proofs.Table.{shape-length}
+use Rattle.layout.specs.Entry.{Entry, booking, lengthAt, kindAt, usedAt, requestAt, entryOf, entryAt}
+use Rattle.layout.specs.Book.{entriesBytes, lengthAll, usedAll, isEnd, joined, decodeFrom, decode}
 use Rattle.layout.specs.Sound.{offset, usedBefore, EndsAt, Sound}
-use Rattle.layout.proofs.Table.{shape-length}
-use Rattle.layout.proofs.Decoding.{Written, written, Fitting, head-end, head-fitting, length-least, length-entries}
+use Rattle.layout.proofs.Entries.{entry-there}
+use Rattle.layout.proofs.Decoding.{Written, written, Fitting, head-end, head-fitting, fitting-request, length-least, length-entries}
 use Rattle.layout.proofs.Positions.{lies-end, lies-length, lies-kind, lies-within, lies-serial, lies-place, lies-used-before}
 
 -- ---- what decodes is sound
@@ -54,7 +56,7 @@ module _ (t : ℕ) (b : List ℕ) (es : List Entry) (by : Bytes b) (so : decode 
         number = length es;
         begins = no-end;
         ends = inr (ap (lengthAt b) (lies-end t b es by so d) ∙ ap (spelled 2) tail ∙ spelled-zeros 2 (length b - lengthAll es));
-        fits-kind = λ i h. lies-length t b es by so d i h ∙ ap (λ (k : ℕ). lengthIn (shapeOf k)) (sym (lies-kind t b es by so d i h));
+        fits-kind = λ i h. lies-length t b es by so d i h ∙ ap (λ (k : ℕ). lengthIn (kindOf k)) (sym (lies-kind t b es by so d i h));
         fits-buffer = λ i h. omega (arith, lies-within t b es by so d i h, lies-length t b es by so d i h);
         serials = λ i h. lies-serial t b es by so d i h;
         places = λ i h. lies-place t b es by so d i h ∙ sym (lies-used-before t b es by so d i (omega arith));
@@ -74,7 +76,7 @@ module _ (t : ℕ) (b : List ℕ) (so : Sound t b) where
   long i h =
       let f = so .fits-kind i h in
       let z : lengthAt b (offset b i) ≡ 0 → ⊥ = λ e. so .begins i h (inr e) in
-      let k : 0 < lengthIn (shapeOf (kindAt b (offset b i))) = omega (arith, f, z) in
+      let k : 0 < lengthIn (kindOf (kindAt b (offset b i))) = omega (arith, f, z) in
       omega (arith, shape-length (kindAt b (offset b i)) k)
 
   -- so many entries reach so far, within the book
@@ -95,7 +97,7 @@ module _ (t : ℕ) (b : List ℕ) (so : Sound t b) where
       record {
         begins = omega arith;
         nonzero = λ z. so .begins i h (inr z);
-        sized = so .fits-kind i h ∙ ap (λ (l : List ℕ). lengthIn (shapeOf (spelled 2 l))) (sym (drop-drop 2 o b));
+        sized = so .fits-kind i h ∙ ap (λ (l : List ℕ). lengthIn (kindOf (spelled 2 l))) (sym (drop-drop 2 o b));
         inside = omega arith;
         due = ap (spelled 4) (drop-drop 4 o b) ∙ so .serials i h ∙ sym (add-one i);
         placed = ap (spelled 4) (drop-drop 8 o b) ∙ so .places i h;
@@ -120,16 +122,22 @@ module _ (t : ℕ) (b : List ℕ) (so : Sound t b) where
         zeros-left,
       )
 
-  decoding-next : (i f : ℕ) → i < so .number
+  -- and the entry that stands there
+  entry-here : (i : ℕ) → i < so .number → Entry
+  entry-here i h = let o = offset b i in entryOf (fitting-request (i + 1) (usedBefore b i) (drop o b) (fitting i h) .0) (drop o b) 0
+
+  decoding-next : (i f : ℕ) (h : i < so .number)
       → decodeFrom (suc f) t (i + 1) (usedBefore b i) (drop (offset b i) b)
-      ≡ Option·map (λ (es : List Entry). entryAt (drop (offset b i) b) 0 ∷ es) (decodeFrom f t (suc i + 1) (usedBefore b (suc i)) (drop (offset b (suc i)) b))
-  unfolding decodeFrom offset usedBefore
+      ≡ Option·map (λ (es : List Entry). entry-here i h ∷ es) (decodeFrom f t (suc i + 1) (usedBefore b (suc i)) (drop (offset b (suc i)) b))
+  unfolding decodeFrom offset usedBefore entry-here
   decoding-next i f h =
       let o : ℕ = offset b i in
-      let used-is : entryAt (drop o b) 0 .used ≡ usedAt b o = unfold entryAt in ap (spelled 4) (drop-drop 12 o b) in
+      let ft = fitting i h in
+      let r = fitting-request (i + 1) (usedBefore b i) (drop o b) ft in
+      let used-is : usedAt (drop o b) 0 ≡ usedAt b o = ap (spelled 4) (drop-drop 12 o b) in
       let s-is : i + 1 + 1 ≡ suc i + 1 = omega arith in
-      rw (head-fitting (i + 1) (usedBefore b i) (drop o b) (fitting i h))
-      (λ j. Option·map (λ (es : List Entry). entryAt (drop o b) 0 ∷ es) (decodeFrom f t (s-is j) (usedBefore b i + used-is j) (drop-drop (lengthAt b o) o b j)))
+      rw (head-fitting (i + 1) (usedBefore b i) (drop o b) ft, entry-there (drop o b) 0 (r .0) (r .1))
+      (λ j. Option·map (λ (es : List Entry). entryOf (r .0) (drop o b) 0 ∷ es) (decodeFrom f t (s-is j) (usedBefore b i + used-is j) (drop-drop (lengthAt b o) o b j)))
 
   -- from the entry i on, with m to come
   decoding : (m i f : ℕ) → i + m ≡ so .number → m < f → (es : List Entry) × (decodeFrom f t (i + 1) (usedBefore b i) (drop (offset b i) b) ≡ some es)
@@ -139,7 +147,8 @@ module _ (t : ℕ) (b : List ℕ) (so : Sound t b) where
       ([], rw n (decoding-end f))
   decoding (suc m) i (suc f) e h =
       let rest = decoding m (suc i) f (omega arith) (omega arith) in
-      (entryAt (drop (offset b i) b) 0 ∷ rest .0, decoding-next i f (omega arith) ∙ ap (Option·map (λ (es : List Entry). entryAt (drop (offset b i) b) 0 ∷ es)) (rest .1))
+      let l : i < so .number = omega arith in
+      (entry-here i l ∷ rest .0, decoding-next i f l ∙ ap (Option·map (λ (es : List Entry). entry-here i l ∷ es)) (rest .1))
 
   pub sound-decodes : (es : List Entry) × (decode t b ≡ some es)
   unfolding decode offset usedBefore

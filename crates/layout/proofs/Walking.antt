@@ -15,13 +15,15 @@ use Rattle.bytes_le.proofs.Numbers.{Bytes, bytes-drop, spelled-lt}
 use Rattle.layout.specs.declared.Head.the-variants.{End, Damage, Next}
 use Rattle.layout.specs.declared.Walked.{Walked}
 use Rattle.layout.specs.declared.Walked.the-variants.{Damaged, Sound}
-use Rattle.layout.specs.Kinds.{shapeOf, lengthIn, lengthOf}
-use Rattle.layout.specs.Entry.{Entry, lengthAt, kindAt, serialAt, placeAt, usedAt, entryAt}
-use Rattle.layout.specs.Book.{lengthAll, usedAll, head, isClosed, decodeFrom, decode}
+use Rattle.kinds.specs.declared.Request.{Request}
+use Rattle.kinds.specs.Kinds.{kindOf, lengthIn, lengthOf}
+use Rattle.kinds.proofs.Table.{shape-length}
+use Rattle.layout.specs.Entry.{Entry, lengthAt, kindAt, serialAt, placeAt, usedAt, requestAt, entryOf, entryAt}
+use Rattle.layout.specs.Book.{lengthAll, usedAll, head, isClosed, joined, decodeFrom, decode}
 use Rattle.layout.specs.Sound.{offset}
 use Rattle.layout.specs.Walk.{telling, walked}
-use Rattle.layout.proofs.Table.{shape-length}
-use Rattle.layout.proofs.Decoding.{head-next, fitting-known, fitting-size}
+use Rattle.layout.proofs.Entries.{entry-there}
+use Rattle.layout.proofs.Decoding.{head-next, fitting-known, fitting-request, fitting-size}
 
 -- ---- the head at `at`, by what the code reads: `left` bytes are left, and n is the length there
 
@@ -47,15 +49,15 @@ module _ (b : List ℕ) (at s p left n : ℕ) (el : left ≡ length b - at) (en 
       is-kind = ap (spelled 2) (drop-drop 2 at b) ∙ sym ek
 
       -- the length is not its kind's
-      pub head-other : (m : ℕ) → m ≡ lengthIn (shapeOf kind) → (n ≡ m → ⊥) → Damage ≡ head s p (drop at b)
+      pub head-other : (m : ℕ) → m ≡ lengthIn (kindOf kind) → (n ≡ m → ⊥) → Damage ≡ head s p (drop at b)
       unfolding head
       head-other m e f = rw (← is-left, le-ltb left 2 h, ← en, ne-eqb n 0 z, is-kind, ← e, ne-eqb n m f)
 
       -- no entry is shorter than 24
       pub head-tiny : n < 24 → Damage ≡ head s p (drop at b)
-      head-tiny t = head-other (lengthIn (shapeOf kind)) refl (λ e. omega (arith, shape-length kind (omega (arith, z))))
+      head-tiny t = head-other (lengthIn (kindOf kind)) refl (λ e. omega (arith, shape-length kind (omega (arith, z))))
 
-      module _ (m : ℕ) (e : m ≡ lengthIn (shapeOf kind)) (f : n ≡ m) (serial : ℕ) (es : serial ≡ serialAt b at) where
+      module _ (m : ℕ) (e : m ≡ lengthIn (kindOf kind)) (f : n ≡ m) (serial : ℕ) (es : serial ≡ serialAt b at) where
         is-serial : serialAt (drop at b) 0 ≡ serial
         is-serial = ap (spelled 4) (drop-drop 4 at b) ∙ sym es
 
@@ -140,17 +142,21 @@ module _ (t : ℕ) (b : List ℕ) (at n p : ℕ) where
         omega (arith, f .placed)
 
     module _ (by : Bytes b) (x u : ℕ) (ex : x ≡ lengthAt b at) (eu : u ≡ usedAt b at) (l : n < length b) where
-      used-is : entryAt (drop at b) 0 .used ≡ u
-      unfolding entryAt
+      abbrev asked : (q : Request) × (requestAt (drop at b) 0 ≡ some q)
+      asked = fitting-request (n + 1) p (drop at b) (head-next (n + 1) p (drop at b) (sym h))
+
+      used-is : usedAt (drop at b) 0 ≡ u
       used-is = ap (spelled 4) (drop-drop 12 at b) ∙ sym eu
 
-      length-is : lengthOf (entryAt (drop at b) 0 .request) ≡ x
-      length-is = fitting-size (n + 1) p (drop at b) (bytes-drop b at by) (head-next (n + 1) p (drop at b) (sym h)) ∙ sym ex
+      length-is : lengthOf (asked .0) ≡ x
+      length-is =
+          fitting-size (n + 1) p (drop at b) (bytes-drop b at by) (head-next (n + 1) p (drop at b) (sym h)) (asked .0) (asked .1) ∙ sym ex
 
       one-turn : telling n at p (decodeFrom (suc (length b - n)) t (n + 1) p (drop at b))
           ≡ telling (n + 1) (at + x) (p + u) (decodeFrom (length b - n) t (n + 1 + 1) (p + u) (drop x (drop at b)))
       unfolding decodeFrom
-      one-turn = rw (← h, ← ex, telling-more n at p (entryAt (drop at b) 0), used-is, length-is)
+      one-turn =
+          rw (← h, ← ex, entry-there (drop at b) 0 (asked .0) (asked .1), telling-more n at p (entryOf (asked .0) (drop at b) 0), used-is, length-is)
 
       pub rest-next : rest t b at n p ≡ rest t b (at + x) (n + 1) (p + u)
       rest-next =

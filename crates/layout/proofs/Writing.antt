@@ -9,8 +9,8 @@ use lib.ListN.{length, getD, drop, set, drop-of-length-le}
 use lib.Seq.{sets, drop-cons}
 use Rattle.bytes_le.specs.LittleEndian.{bytesOf}
 use Rattle.bytes_le.proofs.Numbers.{length-bytes}
-use Rattle.draws.specs.declared.Request.{Request}
-use Rattle.layout.specs.Kinds.{kindNumber, parametersOf, lengthOf}
+use Rattle.kinds.specs.declared.Request.{Request}
+use Rattle.kinds.specs.Kinds.{kindNumber, parametersOf, lengthOf}
 use Rattle.layout.specs.Entry.{booking, parameterBytes, fixedBytes, entryBytes}
 use Rattle.layout.proofs.Entries.{length-fixed}
 

@@ -8,8 +8,8 @@ use lib.ListN.{length, drop, replicate}
 use Rattle.bytes_le.specs.Zeros.{allZero}
 use Rattle.layout.specs.declared.Head.{Head}
 use Rattle.layout.specs.declared.Head.the-variants.{End, Damage, Next}
-use Rattle.layout.specs.Kinds.{shapeOf, lengthIn, lengthOf}
-use Rattle.layout.specs.Entry.{Entry, entryBytes, lengthAt, kindAt, serialAt, placeAt, entryAt}
+use Rattle.kinds.specs.Kinds.{kindOf, lengthIn, lengthOf}
+use Rattle.layout.specs.Entry.{Entry, entryBytes, lengthAt, kindAt, serialAt, placeAt, usedAt, entryAt}
 
 -- the bytes of entries, one after another
 unfoldable pub entriesBytes : List Entry → List ℕ
@@ -36,7 +36,7 @@ isEnd l = ltb (length l) 2 || eqb (lengthAt l 0) 0
 
 -- the length fits its kind and the buffer
 abbrev pub isFitting : List ℕ → Bool
-isFitting l = eqb (lengthAt l 0) (lengthIn (shapeOf (kindAt l 0))) && leb (lengthAt l 0) (length l)
+isFitting l = eqb (lengthAt l 0) (lengthIn (kindOf (kindAt l 0))) && leb (lengthAt l 0) (length l)
 
 -- what stands at the front of the bytes that are left, where the serial s and the place p are due
 unfoldable pub head : ℕ → ℕ → List ℕ → Head
@@ -51,6 +51,11 @@ onHead Next x y z = z
 abbrev pub isClosed : ℕ → ℕ → List ℕ → Bool
 isClosed t p l = leb p t && allZero l
 
+-- an entry before others, where each is one
+abbrev pub joined : Option Entry → Option (List Entry) → Option (List Entry)
+joined none o = none
+joined (some e) o = Option·map (λ (es : List Entry). e ∷ es) o
+
 -- the entries in the bytes l, from the serial s and the place p on; f is above their number
 unfoldable pub decodeFrom : ℕ → ℕ → ℕ → ℕ → List ℕ → Option (List Entry)
 decodeFrom zero t s p l = none
@@ -58,7 +63,7 @@ decodeFrom (suc f) t s p l =
     onHead (head s p l)
     (cond (isClosed t p l) (some []) none)
     none
-    (Option·map (λ (es : List Entry). entryAt l 0 ∷ es) (decodeFrom f t (s + 1) (p + entryAt l 0 .used) (drop (lengthAt l 0) l)))
+    (joined (entryAt l 0) (decodeFrom f t (s + 1) (p + usedAt l 0) (drop (lengthAt l 0) l)))
 
 -- a book's entries for a tape of t words, or none where it is not sound (`decodes-sound`, `sound-decodes`)
 unfoldable pub decode : ℕ → List ℕ → Option (List Entry)

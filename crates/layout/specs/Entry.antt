@@ -1,10 +1,12 @@
 -- 01, 'The book': an entry and its bytes. Assumes nothing.
 use Prim.Native.Nat.{ℕ, _+_}
 use mathlib.Core.List.{List, [], _∷_, _++_}
-use lib.ListN.{drop}
+use mathlib.Core.Option.{Option, Option·map}
+use lib.ListN.{getD, drop}
 use Rattle.bytes_le.specs.LittleEndian.{bytesOf, spelled, wordsFrom}
-use Rattle.draws.specs.declared.Request.{Request}
-use Rattle.layout.specs.Kinds.{shapeOf, parametersIn, kindNumber, parametersOf, lengthOf, requestOf}
+use Rattle.kinds.specs.declared.Request.{Request}
+use Rattle.kinds.specs.declared.Row.{Row}
+use Rattle.kinds.specs.Kinds.{kindOf, parametersIn, kindNumber, parametersOf, lengthOf, requestOf, rowOf}
 
 -- a booking: what was asked for, its serial, the tape's place before the draw (01's `at`), the words used and the count
 pub record Entry : Type 0 where
@@ -57,15 +59,20 @@ countAt b i = spelled 8 (drop (i + 16) b)
 
 -- then its parameters, as many as its kind has
 abbrev pub parametersAt : List ℕ → ℕ → List ℕ
-parametersAt b i = wordsFrom (parametersIn (shapeOf (kindAt b i))) (drop (i + 24) b)
+parametersAt b i = wordsFrom (parametersIn (kindOf (kindAt b i))) (drop (i + 24) b)
 
--- the entry that begins at i, where its kind is one of the table
-unfoldable pub entryAt : List ℕ → ℕ → Entry
-entryAt b i =
-    record {
-      request = requestOf (kindAt b i) (parametersAt b i);
-      serial = serialAt b i;
-      place = placeAt b i;
-      used = usedAt b i;
-      count = countAt b i;
-    }
+-- its request; none where its kind is not of the table
+abbrev pub requestAt : List ℕ → ℕ → Option Request
+requestAt b i = requestOf (kindAt b i) (parametersAt b i)
+
+-- the entry of the request r that has its other fields there
+abbrev pub entryOf : Request → List ℕ → ℕ → Entry
+entryOf r b i = booking r (serialAt b i) (placeAt b i) (usedAt b i) (countAt b i)
+
+-- the entry that begins at i; none where its kind is not of the table
+unfoldable pub entryAt : List ℕ → ℕ → Option Entry
+entryAt b i = Option·map (λ (r : Request). entryOf r b i) (requestAt b i)
+
+-- what the table has for its kind and parameters
+abbrev pub rowAt : List ℕ → ℕ → Row
+rowAt b i = let ps = parametersAt b i in rowOf (kindAt b i) (getD ps 0 0) (getD ps 1 0) (getD ps 2 0)

@@ -1,4 +1,3 @@
-pub mod Kinds
 pub mod Entry
 pub mod Book
 pub mod Sound

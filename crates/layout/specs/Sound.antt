@@ -4,7 +4,7 @@ use mathlib.Core.List.{List}
 use mathlib.Core.Logic.{_⊎_}
 use mathlib.Core.Path.{_≡_}
 use lib.ListN.{length, getD}
-use Rattle.layout.specs.Kinds.{shapeOf, lengthIn}
+use Rattle.kinds.specs.Kinds.{kindOf, lengthIn}
 use Rattle.layout.specs.Entry.{lengthAt, kindAt, serialAt, placeAt, usedAt}
 
 -- entries stand one after another: where the entry i begins, the first being 0
@@ -28,7 +28,7 @@ pub record Sound (t : ℕ) (b : List ℕ) : Type 0 where
   pub begins : (i : ℕ) → i < number → EndsAt b (offset b i) → ⊥
   pub ends : EndsAt b (offset b number)
   -- each length fits its kind and the buffer
-  pub fits-kind : (i : ℕ) → i < number → lengthAt b (offset b i) ≡ lengthIn (shapeOf (kindAt b (offset b i)))
+  pub fits-kind : (i : ℕ) → i < number → lengthAt b (offset b i) ≡ lengthIn (kindOf (kindAt b (offset b i)))
   pub fits-buffer : (i : ℕ) → i < number → offset b i + lengthAt b (offset b i) ≤ length b
   -- serials run 1, 2, 3..
   pub serials : (i : ℕ) → i < number → serialAt b (offset b i) ≡ suc i

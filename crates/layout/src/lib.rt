@@ -1,15 +1,24 @@
-// The layout of a book: the table of kinds, one entry read or written, and the walk over all of them.
+// The layout of a book: one entry read or written, and the walk over all of them.
 use bytes_le::all_zero;
 use bytes_le::read_le;
 use bytes_le::write_le;
-use draws::Request;
+use kinds::Request;
+use kinds::Row;
+use kinds::kind_of;
+use kinds::length_by;
+use kinds::length_of;
+use kinds::parameter;
+use kinds::parameters_by;
+use kinds::parts_of;
+use kinds::row_of;
 ghost use mathlib.Core.Path.{_≡_};
 ghost use Prim.Native.Nat.{ℕ, suc, _+_, _*_, _≤_, _<_};
 ghost use mathlib.Core.Bool.{cond};
 ghost use lib.ListN.{length, getD, drop};
 ghost use lib.Seq.{sets};
-ghost use Rattle.layout.specs.Kinds.{shapeOf, lengthIn, parametersIn, kindNumber, parametersOf, lengthOf, sameRequest};
-ghost use Rattle.layout.specs.Entry.{booking, parameterBytes, fixedBytes, entryBytes, entryAt};
+ghost use Rattle.bytes_le.specs.LittleEndian.{wordsFrom};
+ghost use Rattle.kinds.specs.Kinds.{kindOf, parametersIn, kindNumber, parametersOf, lengthOf};
+ghost use Rattle.layout.specs.Entry.{booking, parameterBytes, fixedBytes, entryBytes, rowAt};
 ghost use Rattle.layout.specs.Book.{isClosed, head};
 ghost use Rattle.layout.specs.Sound.{offset};
 ghost use Rattle.layout.specs.Walk.{walked};
@@ -28,16 +37,6 @@ pub const COUNT: usize = 16;
 
 const PARAMETERS: usize = 24;
 
-const SECOND_PARAMETER: usize = 32;
-
-const THIRD_PARAMETER: usize = 40;
-
-// A kind's entry by the table: its length and the number of its parameters; or that the number is no kind's.
-pub enum Shape {
-    Of { length: u64, parameters: u64 },
-    Unknown,
-}
-
 // What stands at the front of the bytes that are left.
 enum Head {
     End,
@@ -55,154 +54,30 @@ pub enum Walked {
     },
 }
 
-// ---- the table of kinds
-
-// The shape of a kind's entry. Every number that is not in the table is refused here, and nowhere else.
-pub fn shape_of(kind: u16) -> Shape
-    ensures { λ r. ⌜ r ≡ shapeOf kind ⌝ }
-{
-    match kind {
-        1 => Shape::Of {
-            length: 48,
-            parameters: 3,
-        },
-        2 => Shape::Of {
-            length: 32,
-            parameters: 1,
-        },
-        3 => Shape::Of {
-            length: 32,
-            parameters: 1,
-        },
-        4 => Shape::Of {
-            length: 24,
-            parameters: 0,
-        },
-        _ => Shape::Unknown,
-    }
-}
-
-// A request's kind.
-fn kind_of(request: Request) -> u16
-    ensures { λ r. ⌜ r ≡ kindNumber request ⌝ }
-{
-    match request {
-        Request::Hypergeometric {
-            total: _,
-            marked: _,
-            sample: _,
-        } => 1,
-        Request::Poisson { threshold: _ } => 2,
-        Request::Geometric { p: _ } => 3,
-        Request::StandardGeometric => 4,
-    }
-}
-
-// An entry's length by its shape; 0 where the number was no kind's.
-fn length_in(shape: Shape) -> u64
-    ensures { λ r. ⌜ r ≡ lengthIn shape ⌝ }
-{
-    match shape {
-        Shape::Of {
-            length,
-            parameters: _,
-        } => length,
-        Shape::Unknown => 0,
-    }
-}
-
-// The number of its parameters, likewise.
-fn parameters_in(shape: Shape) -> u64
-    ensures { λ r. ⌜ r ≡ parametersIn shape ⌝ }
-{
-    match shape {
-        Shape::Of {
-            length: _,
-            parameters,
-        } => parameters,
-        Shape::Unknown => 0,
-    }
-}
-
-// The length of a request's entry.
-pub fn length_of(request: Request) -> u64
-    ensures { λ r. ⌜ r ≡ lengthOf request ⌝ }
-{
-    length_in(shape_of(kind_of(request)))
-}
-
-// How many parameters a request has.
-fn parameters_of(request: Request) -> u64
-    ensures { λ r. ⌜ r ≡ parametersIn (shapeOf (kindNumber request)) ⌝ }
-{
-    parameters_in(shape_of(kind_of(request)))
-}
-
-// A request's parameter by its place, and 0 past the last.
-fn parameter(request: Request, i: u64) -> u64
-    ensures { λ r. ⌜ r ≡ getD (parametersOf request) i 0 ⌝ }
-{
-    match request {
-        Request::Hypergeometric {
-            total,
-            marked,
-            sample,
-        } => match i {
-            0 => total,
-            1 => marked,
-            2 => sample,
-            _ => 0,
-        },
-        Request::Poisson { threshold } => { if i == 0 { threshold } else { 0 } }
-        Request::Geometric { p } => { if i == 0 { p } else { 0 } }
-        Request::StandardGeometric => 0,
-    }
-}
-
-// Whether two requests have the same kind and the same parameter bits.
-pub fn same(a: Request, b: Request) -> bool
-    ensures { λ r. ⌜ r ≡ sameRequest a b ⌝ }
-{
-    if kind_of(a) != kind_of(b) {
-        return false;
-    }
-    if parameter(a, 0) != parameter(b, 0) {
-        return false;
-    }
-    if parameter(a, 1) != parameter(b, 1) {
-        return false;
-    }
-    parameter(a, 2) == parameter(b, 2)
-}
-
 // ---- one entry
 
-// The request of the entry at `at`.
-pub fn request_at(book: &[u8], at: usize) -> Request
-    requires { ⌜ HasEntry (now book) at ⌝ }
-    ensures { λ r. ⌜ r ≡ entryAt (now (book .entry)) at .request ⌝ }
+// The parameter i of so many that stand from `at` on, and 0 past the last.
+fn parameter_at(book: &[u8], at: usize, parameters: u64, i: u64) -> u64
+    requires { ⌜ at + 8 * parameters ≤ length (now book) ⌝ }
+    ensures { λ r. ⌜ r ≡ getD (wordsFrom parameters (drop at (now (book .entry)))) i 0 ⌝ }
 {
-    match read_le(book, at + KIND, 2) {
-        1 => {
-            let total = read_le(book, at + PARAMETERS, 8);
-            let marked = read_le(book, at + SECOND_PARAMETER, 8);
-            let sample = read_le(book, at + THIRD_PARAMETER, 8);
-            Request::Hypergeometric {
-                total,
-                marked,
-                sample,
-            }
-        }
-        2 => {
-            let threshold = read_le(book, at + PARAMETERS, 8);
-            Request::Poisson { threshold }
-        }
-        3 => {
-            let p = read_le(book, at + PARAMETERS, 8);
-            Request::Geometric { p }
-        }
-        _ => Request::StandardGeometric,
+    if i < parameters {
+        return read_le(book, at + 8 * (i as usize), 8);
     }
+    0
+}
+
+// What the table has for the entry at `at`: its request, if its kind is one of the table's.
+pub fn row_at(book: &[u8], at: usize) -> Row
+    requires { ⌜ HasEntry (now book) at ⌝ }
+    ensures { λ r. ⌜ r ≡ rowAt (now (book .entry)) at ⌝ }
+{
+    let kind = read_le(book, at + KIND, 2) as u16;
+    let parameters = parameters_by(kind);
+    let first = parameter_at(book, at + PARAMETERS, parameters, 0);
+    let second = parameter_at(book, at + PARAMETERS, parameters, 1);
+    let third = parameter_at(book, at + PARAMETERS, parameters, 2);
+    row_of(kind, first, second, third)
 }
 
 // The 24 bytes that every entry has.
@@ -228,14 +103,15 @@ fn put_fixed(
 
 // A request's parameters, one after another.
 fn put_parameters(book: &mut [u8], at: usize, request: Request)
-    requires { ⌜ at + 8 * parametersIn (shapeOf (kindNumber request)) ≤ length (now book) ⌝ }
+    requires { ⌜ at + 8 * parametersIn (kindOf (kindNumber request)) ≤ length (now book) ⌝ }
     ensures { λ _. ⌜ now (book .exit) ≡ sets (now (book .entry)) at (parameterBytes (parametersOf request)) ⌝ }
 {
-    let parameters = parameters_of(request);
+    let parameters = parameters_by(kind_of(request));
+    let parts = parts_of(request);
     let mut i: u64 = 0;
     let mut to = at;
     while i < parameters {
-        write_le(book, to, 8, parameter(request, i));
+        write_le(book, to, 8, parameter(parts, i));
         to += 8;
         i += 1;
     }
@@ -280,7 +156,7 @@ fn head_at(book: &[u8], at: usize, serial: u64, place: u64) -> Head
     if length < 24 {
         return Head::Damage;
     }
-    if length != length_in(shape_of(read_le(book, at + KIND, 2) as u16)) {
+    if length != length_by(read_le(book, at + KIND, 2) as u16) {
         return Head::Damage;
     }
     if read_le(book, at + SERIAL, 4) != serial {

@@ -1,12 +1,11 @@
 -- `head_at` meets its contract: each early answer is the one that `head` gives on what was read until then. Assumes nothing.
 use borrow.Author.Needs.{needs}
-use mathlib.Core.Path.{_≡_, refl, ap, _∙_}
+use mathlib.Core.Path.{_≡_, refl}
 use mathlib.Core.List.{List}
 use Prim.Native.Nat.{ℕ, _+_, _-_, _≤_}
 use native.Mathlib.Omega.{arith}
 use lib.ListN.{length, drop}
 use Rattle.bytes_le.proofs.Numbers.{Bytes, bytes-drop, spelled-lt}
-use Rattle.layout.specs.Kinds.{shapeOf, lengthIn}
 use Rattle.layout.proofs.Walking.{head-short, head-zero, head-over, head-tiny, head-other, head-serial, head-place, head-found}
 use Rattle.layout.proofs.head_at.Statement.{statement}
 use Rattle.layout.proofs.head_at.Tie as tie
@@ -35,12 +34,9 @@ module _ (c : tie.Else3) where
   inside = c .if3 .left
 
 -- where the kind was asked for its length
-module _ (c : tie.After-length-in) where
+module _ (c : tie.After-length-by) where
   abbrev before : tie.Else3
-  before = c .before .before .before .before
-
-  listed : c .length-in .result ≡ lengthIn (shapeOf (c .before .before .read-le2 .result))
-  listed = c .length-in .ensures ∙ ap lengthIn (c .before .shape-of .ensures)
+  before = c .before .before .before
 
 sub-left : tie.Need-sub-left
 sub-left c = search needs
@@ -77,17 +73,14 @@ add-read-le c = search needs
 read-le-requires-2 : tie.Need-read-le-requires-2
 read-le-requires-2 c κs = search needs
 
-cast-shape-of : tie.Need-cast-shape-of
-cast-shape-of c =
+cast-length-by : tie.Need-cast-length-by
+cast-length-by c =
     let a = start (c .before .before) .args in
     let by : Bytes (a .book .now) = λ j. (c .before .before .before .before .before .before .shared-slice-known .given j) .fits in
     omega (arith, c .read-le2 .ensures, spelled-lt 2 (drop (a .at + 2) (a .book .now)) (bytes-drop (a .book .now) (a .at + 2) by))
 
-shape-of-requires : tie.Need-shape-of-requires
-shape-of-requires c κs = search needs
-
-length-in-requires : tie.Need-length-in-requires
-length-in-requires c κs = search needs
+length-by-requires : tie.Need-length-by-requires
+length-by-requires c κs = search needs
 
 returns-5 : tie.Need-returns-5
 returns-5 c =
@@ -95,7 +88,7 @@ returns-5 c =
     let m = before d in
     let a = start m .args in
     head-other (book m) (a .at) (a .serial) (a .place) (left m) (n m) refl (m .before .before .read-le .ensures) (long m) (nonzero m) (inside m)
-    _ (d .before .before .read-le2 .ensures) _ (listed d) (c .if5 .taken)
+    _ (d .before .read-le2 .ensures) _ (d .length-by .ensures) (c .if5 .taken)
 
 add-read-le-2 : tie.Need-add-read-le-2
 add-read-le-2 c = search needs
@@ -110,7 +103,7 @@ returns-6 c =
     let m = before d in
     let a = start m .args in
     head-serial (book m) (a .at) (a .serial) (a .place) (left m) (n m) refl (m .before .before .read-le .ensures) (long m) (nonzero m) (inside m)
-    _ (d .before .before .read-le2 .ensures) _ (listed d) (f .if5 .left) _ (c .before .read-le3 .ensures) (c .if6 .taken)
+    _ (d .before .read-le2 .ensures) _ (d .length-by .ensures) (f .if5 .left) _ (c .before .read-le3 .ensures) (c .if6 .taken)
 
 add-read-le-3 : tie.Need-add-read-le-3
 add-read-le-3 c = search needs
@@ -126,7 +119,7 @@ returns-7 c =
     let m = before d in
     let a = start m .args in
     head-place (book m) (a .at) (a .serial) (a .place) (left m) (n m) refl (m .before .before .read-le .ensures) (long m) (nonzero m) (inside m)
-    _ (d .before .before .read-le2 .ensures) _ (listed d) (f .if5 .left) _ (g .before .read-le3 .ensures) (g .if6 .left)
+    _ (d .before .read-le2 .ensures) _ (d .length-by .ensures) (f .if5 .left) _ (g .before .read-le3 .ensures) (g .if6 .left)
     _ (c .before .read-le4 .ensures) (c .if7 .taken)
 
 returns-8 : tie.Need-returns-8
@@ -137,7 +130,7 @@ returns-8 c =
     let m = before d in
     let a = start m .args in
     head-found (book m) (a .at) (a .serial) (a .place) (left m) (n m) refl (m .before .before .read-le .ensures) (long m) (nonzero m) (inside m)
-    _ (d .before .before .read-le2 .ensures) _ (listed d) (f .if5 .left) _ (g .before .read-le3 .ensures) (g .if6 .left)
+    _ (d .before .read-le2 .ensures) _ (d .length-by .ensures) (f .if5 .left) _ (g .before .read-le3 .ensures) (g .if6 .left)
     _ (c .before .read-le4 .ensures) (c .if7 .left)
 
 pub head-at-spec : {M : Type 1} → statement M
@@ -152,9 +145,8 @@ head-at-spec =
     returns-4
     add-read-le
     read-le-requires-2
-    cast-shape-of
-    shape-of-requires
-    length-in-requires
+    cast-length-by
+    length-by-requires
     returns-5
     add-read-le-2
     read-le-requires-3

@@ -1,7 +1,8 @@
 -- `layout::put_entry` meets its contract: the 24 bytes, and the parameters right after them. Assumes nothing.
 use borrow.Author.Needs.{needs}
 use native.Mathlib.Omega.{arith}
-use Rattle.layout.proofs.Table.{shape-length, request-known}
+use Rattle.kinds.proofs.Table.{shape-length}
+use Rattle.kinds.proofs.Requests.{request-known}
 use Rattle.layout.proofs.Writing.{entry-run}
 use Rattle.layout.proofs.put_entry.Statement.{statement}
 use Rattle.layout.proofs.put_entry.Tie as tie
