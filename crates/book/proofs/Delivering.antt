@@ -2,6 +2,7 @@
 use mathlib.Core.Path.{_≡_, refl, sym, ap, _∙_}
 use mathlib.Core.Bool.{Bool, true, false, not}
 use mathlib.Core.List.{List, [], _∷_}
+use mathlib.Core.Option.{some}
 use Prim.Native.Nat.{ℕ, _+_, _-_, _<_}
 use native.Mathlib.Omega.{arith}
 use lib.ListN.{length, drop}
@@ -10,15 +11,16 @@ use Rattle.words.specs.Outcome.{Outcome, drawn, refused}
 use Rattle.words.specs.Refusals.{Condition, _on_, given, First, NoneHolds}
 use Rattle.words.proofs.Exactly.{none-given}
 use Rattle.bytes_le.proofs.Numbers.{Bytes}
-use Rattle.draws.specs.declared.Request.{Request}
-use Rattle.layout.specs.Kinds.{sameRequest}
-use Rattle.layout.specs.Entry.{Entry, usedAt, countAt, entryAt}
+use Rattle.kinds.specs.declared.Request.{Request}
+use Rattle.kinds.specs.Kinds.{sameRequest}
+use Rattle.layout.specs.Entry.{Entry, usedAt, countAt, requestAt, entryOf, entryAt}
 use Rattle.layout.specs.Sound.{offset}
+use Rattle.layout.proofs.Entries.{entry-there}
 use Rattle.book.specs.Calls.{Call, call, booked, limits, standing}
 use Rattle.book.specs.Deliver.{Booking, copy, isNext, isAhead, bookedAt, isReused, whenNext, freshRefusals, deliverRefusals, copied, delivery, delivering, deliverTo, deliver, freshDelivery}
 use Rattle.book.proofs.Opening.{past-limits, stopped, open-entry}
 
--- of a serial that is not next no condition of the parameters, 15 or 10 holds: no copy is refused by them
+-- of a serial that is not next no condition of a fresh delivery holds: no copy is refused by them
 pub copy-unrefused : (cs : List Condition) → NoneHolds (whenNext false cs)
 copy-unrefused [] = tt
 copy-unrefused (c ∷ cs) = (refl, copy-unrefused cs)
@@ -103,22 +105,26 @@ module _ (ws b : List ℕ) (s : ℕ) (r : Request) where
 
 -- ---- what the entry at a place answers
 
-module _ (b : List ℕ) (i : ℕ) (r q : Request) (eq : q ≡ entryAt b i .request) (z : Bool) (ez : z ≡ sameRequest q r) where
-  same-there : sameRequest (entryAt b i .request) r ≡ z
-  same-there = ap (λ (x : Request). sameRequest x r) (sym eq) ∙ sym ez
+-- by the request q that was read there, and whether it is the same as r
+module _ (b : List ℕ) (i : ℕ) (r q : Request) (asked : requestAt b i ≡ some q) (z : Bool) (ez : z ≡ sameRequest q r) (e : Entry) (here : entryAt b i ≡ some e) where
+  is-entry : e ≡ entryOf q b i
+  is-entry = cc (entry-there b i q asked)
+
+  same-there : sameRequest (e .request) r ≡ z
+  same-there = ap (λ (x : Entry). sameRequest (x .request) r) is-entry ∙ sym ez
 
   pub copy-told : z ≡ true → (c u : ℕ) → c ≡ countAt b i → u ≡ usedAt b i
-      → drawn (copy c) u ≡ given (14 on not (sameRequest (entryAt b i .request) r) ∷ []) (copied (entryAt b i))
-  copy-told y c u ec eu = rw (same-there, y) (unfold entryAt in (λ j. drawn (copy (ec j)) (eu j)))
+      → drawn (copy c) u ≡ given (14 on not (sameRequest (e .request) r) ∷ []) (copied e)
+  copy-told y c u ec eu = rw (same-there, y) ((λ j. drawn (copy (ec j)) (eu j)) ∙ ap copied (sym is-entry))
 
-  pub copy-refused : z ≡ false → refused 14 ≡ given (14 on not (sameRequest (entryAt b i .request) r) ∷ []) (copied (entryAt b i))
+  pub copy-refused : z ≡ false → refused 14 ≡ given (14 on not (sameRequest (e .request) r) ∷ []) (copied e)
   copy-refused n = rw (same-there, n)
 
 -- the entry of the serial s, where it lies, gives a delivery's answer
 pub copy-answers : (ws b : List ℕ) (s : ℕ) (r : Request) → Bytes b → NoneHolds (limits ws b) → (s ≡ 0 → ⊥) → s < length (booked ws b) + 1
-    → (i : ℕ) → i ≡ offset b (s - 1) → (o : Outcome Booking) → o ≡ given (14 on not (sameRequest (entryAt b i .request) r) ∷ []) (copied (entryAt b i))
+    → (i : ℕ) → i ≡ offset b (s - 1) → (o : Outcome Booking)
+    → ((e : Entry) → entryAt b i ≡ some e → o ≡ given (14 on not (sameRequest (e .request) r) ∷ []) (copied e))
     → call o b ≡ deliver ws b s r
 copy-answers ws b s r by h nz l i ei o eo =
-    let there : entryAt b i ≡ bookedAt (booked ws b) s = ap (entryAt b) ei ∙ open-entry ws b by h (s - 1) (omega (arith, nz)) in
-    ap (λ (x : Outcome Booking). call x b) (eo ∙ ap (λ (e : Entry). given (14 on not (sameRequest (e .request) r) ∷ []) (copied e)) there)
-    ∙ deliver-copy ws b s r h nz l
+    let there : entryAt b i ≡ some (bookedAt (booked ws b) s) = ap (entryAt b) ei ∙ open-entry ws b by h (s - 1) (omega (arith, nz)) in
+    ap (λ (x : Outcome Booking). call x b) (eo (bookedAt (booked ws b) s) there) ∙ deliver-copy ws b s r h nz l

@@ -5,20 +5,19 @@ use mathlib.Core.List.{List, [], _∷_, _++_}
 use mathlib.Core.Logic.{_⊎_, inl, inr}
 use Prim.Native.Nat.{ℕ, _+_, _-_, _≤_}
 use native.Mathlib.Omega.{arith}
-use lib.Dec.{eqb}
 use lib.ListN.{length, take, drop, length-drop}
 use lib.Seq.{sets, take-all}
-use borrow.Author.Tests.{eq-eqb, ne-eqb}
 use Rattle.words.specs.Words.{mostWords, tooLong}
 use Rattle.words.specs.Outcome.{Outcome, drawn, refused}
 use Rattle.words.specs.Refusals.{Condition, _on_, given, First, NoneHolds}
-use Rattle.words.specs.Draw.{endsBy}
+use Rattle.words.specs.Draw.{shorts, isShort, endings}
 use Rattle.words.proofs.Tape.{limit-within}
 use Rattle.words.proofs.Exactly.{first-given, first-before, given-append, none-given}
+use Rattle.words.proofs.Short.{none-ended, first-ended}
 use Rattle.words.proofs.Drawing.{accepted-passed, accepted-reading}
-use Rattle.draws.specs.declared.Request.{Request}
-use Rattle.draws.specs.Request.{parameterRefusals, readingOf, drawOf}
-use Rattle.draws.proofs.Laws.{request-exactly, parameters-below}
+use Rattle.kinds.specs.declared.Request.{Request}
+use Rattle.draws.specs.Request.{drawing, parameterRefusals, readingOf, drawOf}
+use Rattle.draws.proofs.Laws.{request-exactly, request-parameter}
 use Rattle.layout.specs.Entry.{booking, entryBytes}
 use Rattle.book.specs.Calls.{call, stands}
 use Rattle.book.specs.Deliver.{Booking, fresh, isFull, freshRefusals, freshly, delivering, freshDelivery}
@@ -38,69 +37,65 @@ module _ (vs b : List ℕ) (end : ℕ) (r : Request) (short : length vs ≤ most
   abbrev o : Outcome ℕ
   o = readingOf r vs
 
+  -- the conditions after the parameters'
   abbrev lasts : List Condition
-  lasts = 15 on isFull b end r ∷ 10 on endsBy 10 (readingOf r vs) ∷ []
+  lasts = 15 on isFull b end r ∷ endings shorts (readingOf r vs)
 
-  -- where no parameter is refused, 15 and 10 decide
+  -- where no parameter is refused, these decide
   passed : NoneHolds (parameterRefusals r) → given (freshRefusals vs b end r) (freshly o) ≡ given lasts (freshly o)
   unfolding freshRefusals
   passed h = given-append (parameterRefusals r) lasts (freshly o) ∙ none-given (parameterRefusals r) (given lasts (freshly o)) h
 
   module _ (c u : ℕ) (e : drawOf r vs ≡ drawn c u) where
     none-wrong : NoneHolds (parameterRefusals r)
-    unfolding drawOf
-    none-wrong = accepted-passed vs (parameterRefusals r) o c u e
+    none-wrong = accepted-passed (drawing r) vs c u e
 
     it-drew : readingOf r vs ≡ drawn c u
-    unfolding drawOf
-    it-drew = accepted-reading vs (parameterRefusals r) o c u e
+    it-drew = accepted-reading (drawing r) vs c u e
 
     pub drew-full : isFull b end r ≡ true → given (freshRefusals vs b end r) (freshly o) ≡ refused 15
     drew-full f = passed none-wrong ∙ rw f
 
     pub drew-room : isFull b end r ≡ false → given (freshRefusals vs b end r) (freshly o) ≡ drawn (fresh c) u
-    drew-room f = passed none-wrong ∙ rw (f, it-drew)
+    drew-room f = passed none-wrong ∙ rw (f, it-drew) (none-given (endings shorts (drawn c u)) (drawn (fresh c) u) (none-ended shorts c u))
 
-  -- a refused draw's refusal, with 15 before 10
+  -- a refused draw's refusal, with 15 before those of a tape that is too short
   abbrev ordered : ℕ → ℕ
-  ordered n = cond (isFull b end r && eqb n 10) 15 n
+  ordered n = cond (isFull b end r && isShort n) 15 n
 
   by-parameter : (n : ℕ) → First n (parameterRefusals r) → given (freshRefusals vs b end r) (freshly o) ≡ refused (ordered n)
   unfolding freshRefusals
   by-parameter n f =
-      let other : eqb n 10 ≡ false = ne-eqb n 10 (λ z. omega (arith, parameters-below r n f)) in
       first-given (parameterRefusals r ++ lasts) (freshly o) n (first-before (parameterRefusals r) lasts n f)
-      ∙ ap refused (sym (rw other (no (isFull b end r))))
+      ∙ ap refused (sym (rw (request-parameter r n f) (no (isFull b end r))))
     where
       no : (f : Bool) → cond (f && false) 15 n ≡ n
       no true = refl
       no false = refl
 
-  by-ten : (n : ℕ) → NoneHolds (parameterRefusals r) → endsBy 10 (readingOf r vs) ≡ true → 10 ≡ n
+  by-short : (n : ℕ) → NoneHolds (parameterRefusals r) → First n (endings shorts (readingOf r vs))
       → given (freshRefusals vs b end r) (freshly o) ≡ refused (ordered n)
-  by-ten n h t e =
+  by-short n h f =
+      let s : isShort n ≡ true = first-ended shorts (readingOf r vs) n f .0 in
       passed h
-      ∙ rw (t, ← e) (either (isFull b end r))
+      ∙ rw (first-given (endings shorts (readingOf r vs)) (freshly o) n f, s) (either (isFull b end r))
     where
-      either : (f : Bool) → _≡_ {A = Outcome Booking} (cond f (refused 15) (refused 10)) (refused (cond (f && true) 15 10))
+      either : (f : Bool) → _≡_ {A = Outcome Booking} (cond f (refused 15) (refused n)) (refused (cond (f && true) 15 n))
       either true = refl
       either false = refl
 
   pub drew-refused : (n : ℕ) → drawOf r vs ≡ refused n → given (freshRefusals vs b end r) (freshly o) ≡ refused (ordered n)
   drew-refused n e = go (request-exactly r vs n .0 e)
     where
-      last : First n (parameterRefusals r) ⊎ (NoneHolds (parameterRefusals r) × First n (10 on endsBy 10 (readingOf r vs) ∷ []))
+      last : First n (parameterRefusals r) ⊎ (NoneHolds (parameterRefusals r) × First n (endings shorts (readingOf r vs)))
           → given (freshRefusals vs b end r) (freshly o) ≡ refused (ordered n)
       last (inl f) = by-parameter n f
-      last (inr x) = elim (x .1) [
-        | inl h ↦ by-ten n (x .0) (h .0) (h .1)
-        | inr h ↦ absurd (h .1)
-      ]
+      last (inr x) = by-short n (x .0) (x .1)
 
-      go : First n (1 on tooLong vs ∷ parameterRefusals r ++ (10 on endsBy 10 (readingOf r vs) ∷ []))
+      go : First n (1 on tooLong vs ∷ parameterRefusals r ++ endings shorts (readingOf r vs))
           → given (freshRefusals vs b end r) (freshly o) ≡ refused (ordered n)
       go (inl h) = absurd (true≢false (sym (h .0) ∙ limit-within vs short))
-      go (inr h) = last (first-split (parameterRefusals r) (10 on endsBy 10 (readingOf r vs) ∷ []) n (h .1))
+      go (inr h) = last (first-split (parameterRefusals r) (endings shorts (readingOf r vs)) n (h .1))
 
 -- ---- the tape from a place on, as it is lent
 
@@ -109,11 +104,16 @@ lent-from ws p = take-all (length ws - p) (drop p ws) (omega (arith, length-drop
 
 -- ---- the refusal that the code gives
 
-pub ordered-full : (full : Bool) (n m : ℕ) → full ≡ true → m ≡ n → m ≡ 10 → 15 ≡ cond (full && eqb n 10) 15 n
-ordered-full full n m f e t = rw (f, eq-eqb n 10 (sym e ∙ t))
+-- by the number m of the refusal n, and whether it is short
+module _ (full : Bool) (n m : ℕ) (f : full ≡ true) (e : m ≡ n) (s : Bool) (es : s ≡ isShort m) where
+  tested : isShort n ≡ s
+  tested = ap isShort (sym e) ∙ sym es
 
-pub ordered-other : (full : Bool) (n m : ℕ) → full ≡ true → m ≡ n → (m ≡ 10 → ⊥) → n ≡ cond (full && eqb n 10) 15 n
-ordered-other full n m f e t = rw (f, ne-eqb n 10 (λ z. t (e ∙ z)))
+  pub ordered-full : s ≡ true → 15 ≡ cond (full && isShort n) 15 n
+  ordered-full t = rw (f, tested, t)
+
+  pub ordered-other : s ≡ false → n ≡ cond (full && isShort n) 15 n
+  ordered-other t = rw (f, tested, t)
 
 -- ---- a fresh delivery, way by way
 
@@ -121,7 +121,7 @@ module _ (ws b : List ℕ) (n end p : ℕ) (r : Request) (short : length ws ≤ 
   left-short : length (drop p ws) ≤ mostWords
   left-short = omega (arith, length-drop p ws)
 
-  pub fresh-refused : (k m : ℕ) → refused k ≡ drawOf r (drop p ws) → m ≡ cond (isFull b end r && eqb k 10) 15 k
+  pub fresh-refused : (k m : ℕ) → refused k ≡ drawOf r (drop p ws) → m ≡ cond (isFull b end r && isShort k) 15 k
       → call (refused m) b ≡ freshDelivery ws b (stands n end p) r
   unfolding freshDelivery
   fresh-refused k m e em =

@@ -15,12 +15,12 @@ use Rattle.words.proofs.Exactly.{first-given, first-before, given-append, none-
 use Rattle.words.proofs.Reading.{refused-not-drawn}
 use Rattle.bytes_le.proofs.Numbers.{Bytes}
 use Rattle.layout.specs.declared.Walked.the-variants.{Damaged, Sound}
-use Rattle.layout.specs.Entry.{Entry, kindAt, entryAt}
+use Rattle.layout.specs.Entry.{Entry, kindAt, placeAt, entryAt}
 use Rattle.layout.specs.Book.{lengthAll, usedAll, decode}
 use Rattle.layout.specs.Sound.{offset}
 use Rattle.layout.specs.Walk.{walked}
 use Rattle.layout.specs.Places.{HasEntry, Reaches}
-use Rattle.layout.proofs.Table.{shape-length}
+use Rattle.kinds.proofs.Table.{shape-length}
 use Rattle.layout.proofs.Decoding.{written, many}
 use Rattle.layout.proofs.Positions.{length-all-append, lies-offset, lies-entry, lies-whole, lies-on-tape, lies-reach}
 use Rattle.layout.proofs.Walking.{walked-damaged, walked-sound}
@@ -127,14 +127,13 @@ module _ (ws b : List ℕ) (by : Bytes b) (h : NoneHolds (limits ws b)) where
       omega (arith, open-offset k l, ap lengthAll (take-append-drop k es), length-all-append (take k es) (drop k es))
 
   module _ (i : ℕ) (l : i < length (booked ws b)) where
-    pub open-entry : entryAt b (offset b i) ≡ getD (booked ws b) i blank
+    pub open-entry : entryAt b (offset b i) ≡ some (getD (booked ws b) i blank)
     open-entry = lies-entry (length ws) b es by (open-decodes ws b h) blank i l
 
     pub open-whole : HasEntry b (offset b i)
     open-whole = lies-whole (length ws) b es by (open-decodes ws b h) blank i l
 
-    pub open-place : entryAt b (offset b i) .place ≤ length ws
-    unfolding entryAt
+    pub open-place : placeAt b (offset b i) ≤ length ws
     open-place = lies-on-tape (length ws) b es by (open-decodes ws b h) blank i l
 
 -- the same of what a call was told

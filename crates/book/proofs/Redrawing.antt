@@ -15,10 +15,11 @@ use borrow.Author.Tests.{eq-eqb, ne-eqb}
 use Rattle.words.specs.Outcome.{Outcome, drawn, refused}
 use Rattle.words.specs.Refusals.{Condition, _on_, given, First, NoneHolds}
 use Rattle.bytes_le.proofs.Numbers.{Bytes}
-use Rattle.draws.specs.declared.Request.{Request}
+use Rattle.kinds.specs.declared.Request.{Request}
 use Rattle.draws.specs.Request.{drawOf}
-use Rattle.layout.specs.Entry.{Entry, serialAt, placeAt, usedAt, countAt, entryAt}
+use Rattle.layout.specs.Entry.{Entry, serialAt, placeAt, usedAt, countAt, requestAt, entryOf, entryAt}
 use Rattle.layout.specs.Sound.{offset}
+use Rattle.layout.proofs.Entries.{entry-there, entry-tells}
 use Rattle.book.specs.Calls.{isNone, booked, limits}
 use Rattle.book.specs.Redraw.{agrees, lowest, redrawRefusals, Redrawing, naming, redrawOf, redraw}
 use Rattle.book.specs.Deliver.{blank}
@@ -123,42 +124,47 @@ module _ (ws : List ℕ) (e : Entry) where
 
 -- ---- the entry at i, by what the code reads of it
 
-module _ (ws b : List ℕ) (i : ℕ) (q : Request) (eq : q ≡ entryAt b i .request) (p : ℕ) (ep : p ≡ placeAt b i) where
-  drawn-there : drawOf (entryAt b i .request) (drop (entryAt b i .place) ws) ≡ drawOf q (drop p ws)
-  unfolding entryAt
-  drawn-there = ap₂ (λ (x : Request) (k : ℕ). drawOf x (drop k ws)) (sym eq) (sym ep)
+module _ (ws b : List ℕ) (i : ℕ) (q : Request) (asked : requestAt b i ≡ some q) (p : ℕ) (ep : p ≡ placeAt b i) (e : Entry) (here : entryAt b i ≡ some e) where
+  is-entry : e ≡ entryOf q b i
+  is-entry = cc (entry-there b i q asked)
 
-  pub agree-refused : (n : ℕ) → refused n ≡ drawOf q (drop p ws) → false ≡ agrees ws (entryAt b i)
-  agree-refused n e = agrees-refused ws (entryAt b i) n (drawn-there ∙ sym e)
+  drawn-there : drawOf (e .request) (drop (e .place) ws) ≡ drawOf q (drop p ws)
+  drawn-there = ap (λ (x : Entry). drawOf (x .request) (drop (x .place) ws)) is-entry ∙ ap (λ (k : ℕ). drawOf q (drop k ws)) (sym ep)
 
-  module _ (c u : ℕ) (e : drawn c u ≡ drawOf q (drop p ws)) (count : ℕ) (ec : count ≡ countAt b i) where
-    both : (used : ℕ) → used ≡ usedAt b i → (eqb c count && eqb u used) ≡ agrees ws (entryAt b i)
-    both used eu = unfold entryAt in (λ j. eqb c (ec j) && eqb u (eu j)) ∙ agrees-drawn ws (entryAt b i) c u (drawn-there ∙ sym e)
+  pub agree-refused : (n : ℕ) → refused n ≡ drawOf q (drop p ws) → false ≡ agrees ws e
+  agree-refused n d = agrees-refused ws e n (drawn-there ∙ sym d)
 
-    pub agree-count : (c ≡ count → ⊥) → false ≡ agrees ws (entryAt b i)
+  module _ (c u : ℕ) (d : drawn c u ≡ drawOf q (drop p ws)) (count : ℕ) (ec : count ≡ countAt b i) where
+    both : (used : ℕ) → used ≡ usedAt b i → (eqb c count && eqb u used) ≡ agrees ws e
+    both used eu =
+        (λ j. eqb c (ec j) && eqb u (eu j))
+        ∙ ap (λ (x : Entry). eqb c (x .count) && eqb u (x .used)) (sym is-entry)
+        ∙ agrees-drawn ws e c u (drawn-there ∙ sym d)
+
+    pub agree-count : (c ≡ count → ⊥) → false ≡ agrees ws e
     agree-count n = ap (λ (t : Bool). t && eqb u (usedAt b i)) (sym (ne-eqb c count n)) ∙ both (usedAt b i) refl
 
-    pub agree-used : c ≡ count → (used : ℕ) → used ≡ usedAt b i → eqb u used ≡ agrees ws (entryAt b i)
+    pub agree-used : c ≡ count → (used : ℕ) → used ≡ usedAt b i → eqb u used ≡ agrees ws e
     agree-used n used eu = ap (λ (t : Bool). t && eqb u used) (sym (eq-eqb c count n)) ∙ both used eu
 
 -- ---- a turn over the bytes
 
 module _ (ws b : List ℕ) (by : Bytes b) (h : NoneHolds (limits ws b)) (i : ℕ) (l : i < length (booked ws b)) (at : ℕ) (ea : at ≡ offset b i)
-    (same : lowest ws (drop i (booked ws b)) ≡ lowest ws (booked ws b)) (z : Bool) (ez : z ≡ agrees ws (entryAt b at)) where
-  there : entryAt b at ≡ getD (booked ws b) i blank
+    (same : lowest ws (drop i (booked ws b)) ≡ lowest ws (booked ws b)) (z : Bool) (ez : (e : Entry) → entryAt b at ≡ some e → z ≡ agrees ws e) where
+  there : entryAt b at ≡ some (getD (booked ws b) i blank)
   there = ap (entryAt b) ea ∙ open-entry ws b by h i l
 
   tested : agrees ws (getD (booked ws b) i blank) ≡ z
-  tested = ap (agrees ws) (sym there) ∙ sym ez
+  tested = sym (ez (getD (booked ws b) i blank) there)
 
   pub goes-on : z ≡ true → lowest ws (drop (i + 1) (booked ws b)) ≡ lowest ws (booked ws b)
   goes-on y = turn-agrees ws (booked ws b) blank i l same (tested ∙ y)
 
   pub differs-here : z ≡ false → (s : ℕ) → s ≡ serialAt b at → record { outcome = refused 17; named = some s } ≡ redraw ws b
-  unfolding entryAt
   differs-here n s es =
+      let is = entry-tells b at (getD (booked ws b) i blank) there .2 in
       redraw-differs ws b h s
-      (turn-differs ws (booked ws b) blank i l same (tested ∙ n) ∙ ap some (sym (es ∙ ap (λ (x : Entry). x .serial) there)))
+      (turn-differs ws (booked ws b) blank i l same (tested ∙ n) ∙ ap some (ap (λ (x : Entry). x .serial) is ∙ sym es))
 
 pub all-agree : (ws b : List ℕ) → NoneHolds (limits ws b) → (n i : ℕ) → n ≡ length (booked ws b) → n ≤ i → lowest ws (drop i (booked ws b)) ≡ lowest ws (booked ws b)
     → record { outcome = drawn n 0; named = none } ≡ redraw ws b

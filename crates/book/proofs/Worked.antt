@@ -3,10 +3,11 @@ use mathlib.Core.Path.{refl}
 use lib.Count.{leadingZeros}
 use Rattle.words.specs.Words.{tooLong}
 use Rattle.words.specs.Rule.{read}
-use Rattle.draws.specs.Request.{parameterRefusals, readingOf}
+use Rattle.words.specs.Draw.{endings}
+use Rattle.geometric.specs.Standard.{standardGeometric}
 use Rattle.bytes_le.specs.LittleEndian.{bytesOf, spelled, wordsFrom}
 use Rattle.bytes_le.specs.Zeros.{allZero}
-use Rattle.layout.specs.Kinds.{shapeOf, sameRequest}
+use Rattle.kinds.specs.Kinds.{numbered, kindOf, parametersOf, sameRequest}
 use Rattle.layout.specs.Entry.{parameterBytes, fixedBytes, entryBytes, entryAt}
 use Rattle.layout.specs.Book.{lengthAll, usedAll, head, decodeFrom, decode}
 use Rattle.book.specs.Calls.{bookTooLong, isDamaged, booked}
@@ -14,5 +15,5 @@ use Rattle.book.specs.Deliver.{isFull, freshRefusals, deliverRefusals, d
 use Rattle.book.specs.Worked.{Worked}
 
 pub worked : Worked
-unfolding leadingZeros tooLong read parameterRefusals readingOf bytesOf spelled allZero shapeOf sameRequest parameterBytes fixedBytes entryBytes wordsFrom entryAt lengthAll usedAll head decodeFrom decode bookTooLong isDamaged booked isFull freshRefusals deliverRefusals delivery deliverTo deliver
+unfolding leadingZeros tooLong read endings standardGeometric bytesOf spelled allZero numbered kindOf parametersOf sameRequest parameterBytes fixedBytes entryBytes wordsFrom entryAt lengthAll usedAll head decodeFrom decode bookTooLong isDamaged booked isFull freshRefusals deliverRefusals delivery deliverTo deliver
 worked = refl

@@ -1,4 +1,5 @@
--- 01, 'The book', Deliver, and 'Refusal numbers': order 1, 11, 12, 13, then copy or 14, parameters, 15, 10. Assumes nothing.
+-- 01, 'The book', Deliver, and 'Refusal numbers': order 1, 11, 12, 13, then copy or 14, parameters, 15, and those of a tape that is too
+-- short. Assumes nothing.
 use Prim.Native.Nat.{ℕ, _+_, _-_}
 use mathlib.Core.Bool.{Bool, cond, not, _&&_, _||_}
 use mathlib.Core.List.{List, [], _∷_, _++_}
@@ -7,12 +8,12 @@ use lib.ListN.{length, getD, drop}
 use lib.Seq.{sets}
 use Rattle.words.specs.Outcome.{Outcome, drawn, refused}
 use Rattle.words.specs.Refusals.{Condition, _on_, given}
-use Rattle.words.specs.Draw.{endsBy}
+use Rattle.words.specs.Draw.{shorts, endings}
 use Rattle.words.specs.Paper.{numberOf}
-use Rattle.draws.specs.declared.Request.{Request}
-use Rattle.draws.specs.declared.Request.the-variants.{StandardGeometric}
+use Rattle.kinds.specs.declared.Request.{Request}
+use Rattle.kinds.specs.declared.Request.the-variants.{StandardGeometric}
+use Rattle.kinds.specs.Kinds.{lengthOf, sameRequest}
 use Rattle.draws.specs.Request.{parameterRefusals, readingOf}
-use Rattle.layout.specs.Kinds.{lengthOf, sameRequest}
 use Rattle.layout.specs.Entry.{Entry, booking, entryBytes}
 use Rattle.book.specs.declared.Delivered.{Delivered}
 use Rattle.book.specs.declared.Delivered.the-variants.{Fresh, Copy, Refused}
@@ -52,9 +53,9 @@ abbrev pub whenNext : Bool → List Condition → List Condition
 whenNext next [] = []
 whenNext next (c ∷ cs) = c .number on (next && c .holds) ∷ whenNext next cs
 
--- parameters, 15, 10: the words vs are those from the book's place on
+-- parameters, 15, a tape that is too short: the words vs are those from the book's place on
 unfoldable pub freshRefusals : List ℕ → List ℕ → ℕ → Request → List Condition
-freshRefusals vs b end r = parameterRefusals r ++ (15 on isFull b end r ∷ 10 on endsBy 10 (readingOf r vs) ∷ [])
+freshRefusals vs b end r = parameterRefusals r ++ (15 on isFull b end r ∷ endings shorts (readingOf r vs))
 
 unfoldable pub deliverRefusals : List ℕ → List ℕ → List Entry → ℕ → Request → List Condition
 deliverRefusals ws b es s r =

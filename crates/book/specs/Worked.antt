@@ -4,7 +4,7 @@ use mathlib.Core.List.{List, [], _∷_}
 use mathlib.Core.Path.{_≡_}
 use lib.ListN.{replicate}
 use Rattle.words.specs.Outcome.{drawn}
-use Rattle.draws.specs.declared.Request.the-variants.{StandardGeometric}
+use Rattle.kinds.specs.declared.Request.the-variants.{StandardGeometric}
 use Rattle.book.specs.Calls.{call}
 use Rattle.book.specs.Deliver.{fresh, deliver}
 

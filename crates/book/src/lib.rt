@@ -1,32 +1,35 @@
 // The book of draws: deliveries, strikes and redraws. A copy of a message gets the answer that it got before.
 use bytes_le::read_le;
 use bytes_le::wipe;
-use draws::Request;
+use kinds::Request;
+use kinds::Row;
+use kinds::length_of;
+use kinds::same;
 use layout::COUNT;
 use layout::PLACE;
 use layout::SERIAL;
 use layout::USED;
 use layout::Walked;
-use layout::length_of;
 use layout::offset_of;
 use layout::put_entry;
-use layout::request_at;
-use layout::same;
+use layout::row_at;
 use layout::walk;
 use words::Answer;
 use words::Refusal;
+use words::is_short;
 use words::number;
 use words::too_long;
 ghost use mathlib.Core.Path.{_≡_};
 ghost use mathlib.Core.List.{[], _∷_};
 ghost use mathlib.Core.Bool.{cond, not, _&&_};
-ghost use lib.Dec.{eqb};
+ghost use mathlib.Core.Option.{some};
 ghost use Prim.Native.Nat.{_+_, _≤_, _<_};
 ghost use lib.ListN.{length, drop};
 ghost use Rattle.words.specs.Refusals.{NoneHolds, _on_, given};
+ghost use Rattle.words.specs.Draw.{isShort};
 ghost use Rattle.words.specs.Paper.{numberOf};
-ghost use Rattle.layout.specs.Kinds.{sameRequest};
-ghost use Rattle.layout.specs.Entry.{entryAt};
+ghost use Rattle.kinds.specs.Kinds.{sameRequest};
+ghost use Rattle.layout.specs.Entry.{Entry, placeAt, entryAt};
 ghost use Rattle.layout.specs.Places.{HasEntry};
 ghost use Rattle.book.specs.Calls.{IsOpen, booked, call, limits, opened, openedAs, stands};
 ghost use Rattle.book.specs.Deliver.{copied, delivered, freshDelivery};
@@ -95,12 +98,16 @@ fn open_book(tape: &[u64], book: &[u8]) -> Opened
 
 // ---- deliveries
 
-// What the entry at `at` answers a delivery of its serial.
+// What the entry at `at` answers a delivery of its serial. A number that is no kind's is another request.
 fn copy_at(book: &[u8], at: usize, request: Request) -> Delivered
     requires { ⌜ HasEntry (now book) at ⌝ }
-    ensures { λ r. ⌜ delivered r ≡ given (14 on not (sameRequest (entryAt (now (book .entry)) at .request) request) ∷ []) (copied (entryAt (now (book .entry)) at)) ⌝ }
+    ensures { λ r. ⌜ ((e : Entry) → entryAt (now (book .entry)) at ≡ some e → delivered r ≡ given (14 on not (sameRequest (e .request) request) ∷ []) (copied e)) ⌝ }
 {
-    if same(request_at(book, at), request) {
+    let row = row_at(book, at);
+    let Row::Of { length: _, parameters: _, request: booked } = row else {
+        return Delivered::Refused(Refusal::SerialReused);
+    };
+    if same(booked, request) {
         let count = read_le(book, at + COUNT, 8);
         let used = read_le(book, at + USED, 4);
         return Delivered::Copy {
@@ -111,12 +118,12 @@ fn copy_at(book: &[u8], at: usize, request: Request) -> Delivered
     Delivered::Refused(Refusal::SerialReused)
 }
 
-// Which refusal a fresh delivery is given: the draw's own, but of a full book 15 goes before 10.
+// Which refusal a fresh delivery is given: the draw's own, but of a full book 15 goes before those of a tape that is too short.
 fn in_order(refusal: Refusal, full: bool) -> Refusal
-    ensures { λ r. ⌜ numberOf r ≡ cond (full && eqb (numberOf refusal) 10) 15 (numberOf refusal) ⌝ }
+    ensures { λ r. ⌜ numberOf r ≡ cond (full && isShort (numberOf refusal)) 15 (numberOf refusal) ⌝ }
 {
     if full {
-        if number(refusal) == 10 {
+        if is_short(number(refusal)) {
             return Refusal::BookFull;
         }
         return refusal;
@@ -226,13 +233,17 @@ pub fn strike(tape: &[u64], book: &mut [u8], j: u64) -> Struck
 
 // ---- redraws
 
-// Whether the entry at `at` is what its request draws from its place.
+// Whether the entry at `at` is what its request draws from its place. A number that is no kind's draws nothing.
 fn agrees_at(tape: &[u64], book: &[u8], at: usize) -> bool
-    requires { ⌜ HasEntry (now book) at × (entryAt (now book) at .place ≤ length (now tape)) ⌝ }
-    ensures { λ r. ⌜ r ≡ agrees (now (tape .entry)) (entryAt (now (book .entry)) at) ⌝ }
+    requires { ⌜ HasEntry (now book) at × (placeAt (now book) at ≤ length (now tape)) ⌝ }
+    ensures { λ r. ⌜ ((e : Entry) → entryAt (now (book .entry)) at ≡ some e → r ≡ agrees (now (tape .entry)) e) ⌝ }
 {
     let place = read_le(book, at + PLACE, 4) as usize;
-    match draws::draw(&tape[place..], request_at(book, at)) {
+    let row = row_at(book, at);
+    let Row::Of { length: _, parameters: _, request } = row else {
+        return false;
+    };
+    match draws::draw(&tape[place..], request) {
         Answer::Refused(_) => false,
         Answer::Drawn { count, used } => {
             if count != read_le(book, at + COUNT, 8) {

@@ -13,9 +13,10 @@ use borrow.Author.Needs.{needs}
 use borrow.Author.Tests.{eq-eqb, eqb-true}
 use Rattle.kinds.specs.declared.Parts.{Parts}
 use Rattle.kinds.specs.declared.Request.{Request}
+use Rattle.kinds.specs.declared.Row.the-variants.{Of, Unknown}
 use Rattle.kinds.specs.declared.Request.the-variants.{Hypergeometric, Poisson, Geometric, StandardGeometric}
-use Rattle.kinds.specs.Kinds.{Kind, table, numbered, kindOf, lengthIn, parametersIn, requestOf, partsOf, kindNumber, three, parametersOf, lengthOf, Alike, sameParts, sameRequest}
-use Rattle.kinds.proofs.Table.{both-true, Listed, listed, by-kind, shape-length, known}
+use Rattle.kinds.specs.Kinds.{Kind, table, numbered, kindOf, lengthIn, parametersIn, requestOf, partsOf, kindNumber, three, parametersOf, lengthOf, Alike, sameParts, sameRequest, row, rowOf}
+use Rattle.kinds.proofs.Table.{both-true, row-none, Listed, listed, by-kind, shape-length, known}
 
 -- a request is the one of its kind and parameters: a line a kind
 pub request-again : (r : Request) → requestOf (kindNumber r) (parametersOf r) ≡ some r
@@ -135,6 +136,17 @@ unfolding requestOf
 known-request k ps h =
     let x = known k h in
     (x .0 .makes (getD ps 0 0) (getD ps 1 0) (getD ps 2 0), rw (x .1))
+
+-- the table's row says the same
+pub row-asks : (k : ℕ) (ps : List ℕ) (l n : ℕ) (q : Request) → Of l n q ≡ rowOf k (getD ps 0 0) (getD ps 1 0) (getD ps 2 0) → requestOf k ps ≡ some q
+unfolding requestOf
+row-asks k ps l n q =
+    by-kind (λ o. Of l n q ≡ row o (getD ps 0 0) (getD ps 1 0) (getD ps 2 0) → Option·map (λ (x : Kind). x .makes (getD ps 0 0) (getD ps 1 0) (getD ps 2 0)) o ≡ some q)
+    k (λ e. let z : _≡_ {A = ℕ} 0 1 = cc in absurd (omega arith)) (λ x _ _ e. cc)
+
+pub row-asks-none : (k : ℕ) (ps : List ℕ) → Unknown ≡ rowOf k (getD ps 0 0) (getD ps 1 0) (getD ps 2 0) → requestOf k ps ≡ none
+unfolding requestOf
+row-asks-none k ps e = rw (row-none (kindOf k) (getD ps 0 0) (getD ps 1 0) (getD ps 2 0) e)
 
 -- ---- the same request
 

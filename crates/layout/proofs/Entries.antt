@@ -1,7 +1,7 @@
 -- Laws of one entry: what was written is read, and what was read is written. Assumes nothing.
 use mathlib.Core.Path.{_≡_, refl, sym, ap, ap₂, _∙_}
 use mathlib.Core.List.{List, [], _∷_, _++_, append-assoc}
-use mathlib.Core.Option.{Option, some, Option·map}
+use mathlib.Core.Option.{Option, none, some, Option·map}
 use Prim.Native.Nat.{ℕ, zero, suc, _+_, _*_, _^_, _<_, _≤_}
 use native.Mathlib.Omega.{arith}
 use lib.ListN.{length, take, drop, length-append, length-drop}
@@ -9,10 +9,11 @@ use lib.Seq.{drop-at, take-add, drop-drop}
 use Rattle.bytes_le.specs.LittleEndian.{bytesOf, spelled, wordsFrom}
 use Rattle.bytes_le.proofs.Numbers.{Bytes, bytes-drop, length-bytes, spelled-bytes, spelled-lt, bytes-spelled, length-words}
 use Rattle.kinds.specs.declared.Request.{Request}
+use Rattle.kinds.specs.declared.Row.the-variants.{Of, Unknown}
 use Rattle.kinds.specs.Kinds.{kindOf, lengthIn, parametersIn, kindNumber, parametersOf, lengthOf, requestOf, AllFit, RequestFits}
 use Rattle.kinds.proofs.Table.{shape-length, length-small}
-use Rattle.kinds.proofs.Requests.{request-known, request-shape, request-length, request-again, kind-fits, kind-again, known-request}
-use Rattle.layout.specs.Entry.{Entry, parameterBytes, fixedBytes, entryBytes, lengthAt, kindAt, serialAt, placeAt, usedAt, countAt, parametersAt, requestAt, entryOf, entryAt}
+use Rattle.kinds.proofs.Requests.{request-known, request-shape, request-length, request-again, kind-fits, kind-again, known-request, row-asks, row-asks-none}
+use Rattle.layout.specs.Entry.{Entry, parameterBytes, fixedBytes, entryBytes, lengthAt, kindAt, serialAt, placeAt, usedAt, countAt, parametersAt, requestAt, entryOf, entryAt, rowAt}
 
 -- an entry's numbers fit their fields
 pub record Fits (e : Entry) : Type 0 where
@@ -158,6 +159,28 @@ request-there l known = known-request (kindAt l 0) (parametersAt l 0) known
 pub entry-there : (l : List ℕ) (i : ℕ) (q : Request) → requestAt l i ≡ some q → entryAt l i ≡ some (entryOf q l i)
 unfolding entryAt
 entry-there l i q asked = ap (Option·map (λ (x : Request). entryOf x l i)) asked
+
+-- where the number is no kind's there is none
+entry-none : (l : List ℕ) (i : ℕ) → Unknown ≡ rowAt l i → entryAt l i ≡ none
+unfolding entryAt
+entry-none l i e = rw (row-asks-none (kindAt l i) (parametersAt l i) e)
+
+pub nothing-there : {A : Type 0} (l : List ℕ) (i : ℕ) (e : Entry) → Unknown ≡ rowAt l i → entryAt l i ≡ some e → A
+nothing-there l i e u here = let z : _≡_ {A = ℕ} 0 1 = cc (entry-none l i u) in absurd (omega arith)
+
+-- where it is, the row's request is the one that stands there
+pub row-request : (l : List ℕ) (i m n : ℕ) (q : Request) → Of m n q ≡ rowAt l i → requestAt l i ≡ some q
+row-request l i m n q e = row-asks (kindAt l i) (parametersAt l i) m n q e
+
+-- the other way round: an entry that is read has the fields that stand there
+pub entry-tells : (l : List ℕ) (i : ℕ) (e : Entry) → entryAt l i ≡ some e → (q : Request) × (requestAt l i ≡ some q) × (e ≡ entryOf q l i)
+unfolding entryAt
+entry-tells l i e here = go (requestAt l i) refl here
+  where
+    go : (o : Option Request) → requestAt l i ≡ o → Option·map (λ (x : Request). entryOf x l i) o ≡ some e
+        → (q : Request) × (requestAt l i ≡ some q) × (e ≡ entryOf q l i)
+    go none a h = let z : _≡_ {A = ℕ} 0 1 = cc in absurd (omega arith)
+    go (some q) a h = (q, a, cc)
 
 module _ (l : List ℕ) (by : Bytes l) (q : Request) (asked : requestAt l 0 ≡ some q) where
   abbrev kind : ℕ

@@ -6,9 +6,10 @@ use mathlib.Core.List.{List}
 use Prim.Native.Nat.{ℕ, _-_, _*_, _≤_}
 use native.Mathlib.Omega.{arith}
 use borrow.Author.Tests.{ltb-false}
-use lib.Dec.{eqb, ltb}
+use lib.Dec.{ltb}
 use lib.ListN.{length, drop}
 use Rattle.words.specs.Words.{mostWords}
+use Rattle.words.specs.Draw.{isShort}
 use Rattle.words.specs.Paper.{numberOf, paper}
 use Rattle.words.specs.declared.Refusal.{Refusal}
 use Rattle.draws.specs.Request.{drawOf}
@@ -103,7 +104,7 @@ returns-2 c =
     let a = start d .args in
     let x : Refusal = c .before .before .refusal .given .0 .0 in
     fresh-refused (ws d) (b d) (a .entries) (a .end) (a .place) (a .request) (short d) _ _ (sym (ap paper (c .before .before .refusal .given .1)) ∙ drew d)
-    (c .in-order .ensures ∙ ap (λ (t : Bool). cond (t && eqb (numberOf x) 10) 15 (numberOf x)) (sym (fullness d _ refl)))
+    (c .in-order .ensures ∙ ap (λ (t : Bool). cond (t && isShort (numberOf x)) 15 (numberOf x)) (sym (fullness d _ refl)))
 
 same-length : tie.Need-same-length
 same-length c = search needs
