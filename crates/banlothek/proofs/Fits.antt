@@ -12,9 +12,10 @@ use Rattle.words.proofs.Tape.{within-limit}
 use Rattle.words.proofs.Exactly.{drawn-exactly}
 use Rattle.words.proofs.Reading.{refused-not-drawn}
 use Rattle.bytes_le.proofs.Numbers.{Bytes}
-use Rattle.draws.specs.declared.Request.{Request}
+use Rattle.kinds.specs.declared.Request.{Request}
+use Rattle.kinds.specs.Kinds.{numbered, kindOf, parametersOf}
 use Rattle.draws.specs.Request.{readingOf, drawOf}
-use Rattle.draws.proofs.Laws.{request-within, request-bounds, used-fits}
+use Rattle.draws.proofs.Laws.{request-within, request-used}
 use Rattle.layout.specs.Entry.{Entry}
 use Rattle.layout.specs.Book.{usedAll, decode}
 use Rattle.layout.proofs.Entries.{Fits}
@@ -26,11 +27,12 @@ use Rattle.book.proofs.Redrawing.{lowest-first}
 
 -- what a request's draw comes to uses no more words than a tape may have
 pub draw-fits : (r : Request) (ws : List ℕ) (o : Outcome ℕ) → o ≡ drawOf r ws → usedOf o < 2 ^ 32
-draw-fits r ws (drawn c u) e = omega (arith, used-fits r u (request-bounds r ws c u (sym e) .1))
+draw-fits r ws (drawn c u) e = omega (arith, request-used r ws c u (sym e))
 draw-fits r ws (refused n) e = omega arith
 
 -- entries that follow one another have numbers that fit their fields, and so has the blank past their end
 each-fits : (es : List Entry) (s p i : ℕ) → Chain s p es → Fits (getD es i blank)
+unfolding numbered kindOf parametersOf
 each-fits [] s p i c =
     record { request-fits = tt; serial-fits = omega arith; place-fits = omega arith; used-fits = omega arith; count-fits = omega arith }
 each-fits (e ∷ es) s p zero c = c .0 .0

@@ -3,7 +3,7 @@
 use book::Delivered;
 use book::Redrawn;
 use book::Struck;
-use draws::Request;
+use kinds::Request;
 use words::Answer;
 use words::Refusal;
 use words::number;
@@ -11,7 +11,7 @@ ghost use mathlib.Core.Path.{_≡_};
 ghost use Prim.Native.Nat.{_<_, _^_};
 ghost use Rattle.words.specs.Outcome.{usedOf};
 ghost use Rattle.words.specs.Paper.{numberOf, paper};
-ghost use Rattle.draws.specs.declared.Request.the-variants.{Hypergeometric, Poisson, Geometric, StandardGeometric};
+ghost use Rattle.kinds.specs.declared.Request.the-variants.{Hypergeometric, Poisson, Geometric, StandardGeometric};
 ghost use Rattle.draws.specs.Request.{drawOf};
 ghost use Rattle.book.specs.Deliver as deliveries;
 ghost use Rattle.book.specs.Strike as strikes;

@@ -1,29 +1,20 @@
 -- `banlothek_draw_poisson` meets its contract: the draw of this kind of request is the kind's own. Assumes nothing.
 use borrow.Author.Needs.{needs}
-use mathlib.Core.Path.{_≡_, ap, _∙_}
-use Rattle.words.specs.Paper.{paper}
-use Rattle.poisson.specs.Poisson.{poisson}
-use Rattle.draws.specs.declared.Request.the-variants.{Poisson}
-use Rattle.draws.specs.Request.{parameterRefusals, readingOf, drawOf}
+use mathlib.Core.Path.{ap, _∙_}
+use Rattle.kinds.specs.declared.Request.the-variants.{Poisson}
 use Rattle.banlothek.specs.Face.{plain}
 use Rattle.banlothek.proofs.Fits.{draw-fits}
 use Rattle.banlothek.proofs.banlothek_draw_poisson.Statement.{statement}
 use Rattle.banlothek.proofs.banlothek_draw_poisson.Tie as tie
 
--- what the draw came to
-drew : (c : tie.After-sample-bits)
-    → let a = c .before .before .args in paper (c .sample-bits .result) ≡ drawOf (Poisson (a .threshold-bits)) (a .tape .now)
-unfolding drawOf parameterRefusals readingOf poisson
-drew c = c .sample-bits .ensures
-
 sample-bits-requires : tie.Need-sample-bits-requires
 sample-bits-requires c κs = search needs
 
 told-requires : tie.Need-told-requires
-told-requires c κs = draw-fits _ _ _ (drew c)
+told-requires c κs = let a = c .before .before .args in draw-fits (Poisson (a .threshold-bits)) (a .tape .now) _ (c .sample-bits .ensures)
 
 returns : tie.Need-returns
-returns c = c .told .ensures ∙ ap plain (drew (c .before))
+returns c = c .told .ensures ∙ ap plain (c .before .sample-bits .ensures)
 
 pub banlothek-draw-poisson-spec : {M : Type 1} → statement M
 banlothek-draw-poisson-spec = tie.close (tie.spec sample-bits-requires told-requires returns)
