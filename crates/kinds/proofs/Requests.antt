@@ -8,7 +8,7 @@ use Prim.Native.Nat.{ℕ, zero, suc, _+_, _*_, _^_, _≤_, _<_}
 use native.Mathlib.Omega.{arith}
 use lib.Dec.{eqb}
 use lib.ListN.{length, getD, take}
-use lib.Seq.{length-take-le, getD-take}
+use lib.Seq.{length-take-le}
 use borrow.Author.Needs.{needs}
 use borrow.Author.Tests.{eq-eqb, eqb-true}
 use Rattle.kinds.specs.declared.Parts.{Parts}
@@ -92,11 +92,6 @@ module _ (r : Request) where
   -- its kind fits the two bytes that hold it
   pub kind-fits : kindNumber r < 256 ^ 2
   kind-fits = omega (arith, is-listed .small)
-
-  -- its parameters are the first of its parts
-  pub parameter-part : (i : ℕ) → i < parametersIn (kindOf (kindNumber r)) → getD (three (partsOf r)) i 0 ≡ getD (parametersOf r) i 0
-  unfolding parametersOf
-  parameter-part i h = sym (getD-take (parametersIn (kindOf (kindNumber r))) (three (partsOf r)) i 0 h)
 
 -- ---- a request by its kind and parameters
 

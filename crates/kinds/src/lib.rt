@@ -1,7 +1,6 @@
 // What may be asked for, and the table of kinds: a kind's number, its entry's length, its parameters, and the request that they make.
 ghost use mathlib.Core.Path.{_≡_};
-ghost use lib.ListN.{getD};
-ghost use Rattle.kinds.specs.Kinds.{rowOf, lengthIn, parametersIn, kindOf, kindNumber, lengthOf, partsOf, Alike, three, sameParts, sameRequest};
+ghost use Rattle.kinds.specs.Kinds.{rowOf, lengthIn, parametersIn, kindOf, kindNumber, lengthOf, partsOf, Alike, sameParts, sameRequest};
 
 // A request of any kind that a book can hold, with its parameters as a book holds them, floats by their 64 bits.
 pub enum Request {
@@ -152,18 +151,6 @@ pub fn length_of(request: Request) -> u64
     ensures { λ r. ⌜ r ≡ lengthOf request ⌝ }
 {
     length_by(kind_of(request))
-}
-
-// A parameter by its place, and 0 past the third.
-pub fn parameter(parts: Parts, i: u64) -> u64
-    ensures { λ r. ⌜ r ≡ getD (three parts) i 0 ⌝ }
-{
-    match i {
-        0 => parts.first,
-        1 => parts.second,
-        2 => parts.third,
-        _ => 0,
-    }
 }
 
 // Whether two requests have the same kind and the same parameter bits.

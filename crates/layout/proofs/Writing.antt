@@ -1,12 +1,13 @@
 -- Laws of an entry's bytes as runs of stores, one field after another. Assumes nothing.
 use mathlib.Core.Path.{_≡_, refl, sym, ap, ap₂, _∙_}
-use mathlib.Core.List.{List, [], _∷_, _++_}
-use Prim.Native.Nat.{ℕ, suc, _+_, _≤_, _<_}
+use mathlib.Core.Bool.{cond}
+use mathlib.Core.List.{List, [], _∷_, _++_, append-nil}
+use Prim.Native.Nat.{ℕ, zero, suc, _+_, _*_, _≤_}
 use native.Mathlib.Nat.{add-zero}
-use native.Mathlib.Numerals.{add-one}
 use native.Mathlib.Omega.{arith}
-use lib.ListN.{length, getD, drop, set, drop-of-length-le}
-use lib.Seq.{sets, drop-cons}
+use lib.Dec.{ltb}
+use lib.ListN.{length, take, set}
+use lib.Seq.{sets}
 use Rattle.bytes_le.specs.LittleEndian.{bytesOf}
 use Rattle.bytes_le.proofs.Numbers.{length-bytes}
 use Rattle.kinds.specs.declared.Request.{Request}
@@ -49,16 +50,33 @@ fixed-run b b1 b2 b3 b4 b5 b6 at z k r s p u c ez ek e1 e2 e3 e4 e5 e6 =
 
 -- ---- parameters
 
--- with the parameter i stored, what is left to store is the parameters after it
-pub parameter-turn : (l m ps : List ℕ) (to i : ℕ) → i < length ps → m ≡ sets l to (bytesOf 8 (getD ps i 0))
-    → sets m (to + 8) (parameterBytes (drop (i + 1) ps)) ≡ sets l to (parameterBytes (drop i ps))
-unfolding parameterBytes
-parameter-turn l m ps to i h e = rw (add-one i, drop-cons ps i 0 h) (field-next l m to (to + 8) 8 (getD ps i 0) _ e refl)
+-- of three numbers the first n, one after another
+module _ (b b1 b2 b3 : List ℕ) (at x y z : ℕ) where
+  one-number : sets b (at + 0) (bytesOf 8 x) ≡ sets b at (parameterBytes (x ∷ []))
+  unfolding parameterBytes
+  one-number = ap₂ (λ (i : ℕ) (l : List ℕ). sets b i l) (add-zero at) (sym (append-nil (bytesOf 8 x)))
 
--- past the last, nothing is left to store
-pub parameters-done : (l d ps : List ℕ) (to i : ℕ) → length ps ≤ i → sets l to (parameterBytes (drop i ps)) ≡ d → l ≡ d
-unfolding parameterBytes
-parameters-done l d ps to i h e = rw (drop-of-length-le ps h) at e
+  two-numbers : b1 ≡ sets b (at + 0) (bytesOf 8 x) → sets b1 (at + 8) (bytesOf 8 y) ≡ sets b at (parameterBytes (x ∷ y ∷ []))
+  unfolding parameterBytes
+  two-numbers e1 =
+      field-next b b1 (at + 0) (at + 8) 8 x (bytesOf 8 y) e1 (omega arith)
+      ∙ ap₂ (λ (i : ℕ) (l : List ℕ). sets b i (bytesOf 8 x ++ l)) (add-zero at) (sym (append-nil (bytesOf 8 y)))
+
+  three-numbers : b1 ≡ sets b (at + 0) (bytesOf 8 x) → b2 ≡ sets b1 (at + 8) (bytesOf 8 y) → sets b2 (at + 16) (bytesOf 8 z) ≡ sets b at (parameterBytes (x ∷ y ∷ z ∷ []))
+  unfolding parameterBytes
+  three-numbers e1 e2 =
+      field-next b1 b2 (at + 8) (at + 16) 8 y (bytesOf 8 z) e2 (omega arith)
+      ∙ field-next b b1 (at + 0) (at + 8) 8 x (bytesOf 8 y ++ bytesOf 8 z) e1 (omega arith)
+      ∙ ap₂ (λ (i : ℕ) (l : List ℕ). sets b i (bytesOf 8 x ++ (bytesOf 8 y ++ l))) (add-zero at) (sym (append-nil (bytesOf 8 z)))
+
+  pub three-run : (n : ℕ) → n ≤ 3 → b1 ≡ cond (ltb 0 n) (sets b (at + 8 * 0) (bytesOf 8 x)) b → b2 ≡ cond (ltb 1 n) (sets b1 (at + 8 * 1) (bytesOf 8 y)) b1
+      → b3 ≡ cond (ltb 2 n) (sets b2 (at + 8 * 2) (bytesOf 8 z)) b2 → b3 ≡ sets b at (parameterBytes (take n (x ∷ y ∷ z ∷ [])))
+  unfolding parameterBytes
+  three-run zero h e1 e2 e3 = e3 ∙ e2 ∙ e1
+  three-run (suc zero) h e1 e2 e3 = e3 ∙ e2 ∙ e1 ∙ one-number
+  three-run (suc (suc zero)) h e1 e2 e3 = e3 ∙ e2 ∙ two-numbers e1
+  three-run (suc (suc (suc zero))) h e1 e2 e3 = e3 ∙ three-numbers e1 e2
+  three-run (suc (suc (suc (suc n)))) h e1 e2 e3 = absurd (omega arith)
 
 -- ---- an entry
 

@@ -7,16 +7,16 @@ use kinds::Row;
 use kinds::kind_of;
 use kinds::length_by;
 use kinds::length_of;
-use kinds::parameter;
 use kinds::parameters_by;
 use kinds::parts_of;
 use kinds::row_of;
 ghost use mathlib.Core.Path.{_≡_};
 ghost use Prim.Native.Nat.{ℕ, suc, _+_, _*_, _≤_, _<_};
 ghost use mathlib.Core.Bool.{cond};
+ghost use lib.Dec.{ltb};
 ghost use lib.ListN.{length, getD, drop};
 ghost use lib.Seq.{sets};
-ghost use Rattle.bytes_le.specs.LittleEndian.{wordsFrom};
+ghost use Rattle.bytes_le.specs.LittleEndian.{bytesOf, wordsFrom};
 ghost use Rattle.kinds.specs.Kinds.{kindOf, parametersIn, kindNumber, parametersOf, lengthOf};
 ghost use Rattle.layout.specs.Entry.{booking, parameterBytes, fixedBytes, entryBytes, rowAt};
 ghost use Rattle.layout.specs.Book.{isClosed, head};
@@ -101,20 +101,26 @@ fn put_fixed(
     write_le(book, at + COUNT, 8, count);
 }
 
-// A request's parameters, one after another.
+// Writes the parameter i of so many that stand from `at` on, and nothing past the last.
+fn put_parameter(book: &mut [u8], at: usize, parameters: u64, i: u64, value: u64)
+    requires { ⌜ at + 8 * parameters ≤ length (now book) ⌝ }
+    ensures { λ _. ⌜ now (book .exit) ≡ cond (ltb i parameters) (sets (now (book .entry)) (at + 8 * i) (bytesOf 8 value)) (now (book .entry)) ⌝ }
+{
+    if i < parameters {
+        write_le(book, at + 8 * (i as usize), 8, value);
+    }
+}
+
+// A request's parameters, one after another. (A loop over them becomes a call of memcpy, which costs more than the three tests.)
 fn put_parameters(book: &mut [u8], at: usize, request: Request)
     requires { ⌜ at + 8 * parametersIn (kindOf (kindNumber request)) ≤ length (now book) ⌝ }
     ensures { λ _. ⌜ now (book .exit) ≡ sets (now (book .entry)) at (parameterBytes (parametersOf request)) ⌝ }
 {
-    let parameters = parameters_by(kind_of(request));
     let parts = parts_of(request);
-    let mut i: u64 = 0;
-    let mut to = at;
-    while i < parameters {
-        write_le(book, to, 8, parameter(parts, i));
-        to += 8;
-        i += 1;
-    }
+    let parameters = parameters_by(parts.kind);
+    put_parameter(book, at, parameters, 0, parts.first);
+    put_parameter(book, at, parameters, 1, parts.second);
+    put_parameter(book, at, parameters, 2, parts.third);
 }
 
 // Writes an entry's bytes from `at` on, and no other byte.
