@@ -182,6 +182,13 @@ entry-tells l i e here = go (requestAt l i) refl here
     go none a h = let z : _≡_ {A = ℕ} 0 1 = cc in absurd (omega arith)
     go (some q) a h = (q, a, cc)
 
+-- and its request is of the kind that stands there
+pub entry-kind : (l : List ℕ) (i : ℕ) (e : Entry) → entryAt l i ≡ some e → kindNumber (e .request) ≡ kindAt l i
+entry-kind l i e here =
+    let t = entry-tells l i e here in
+    ap (λ (x : Entry). kindNumber (x .request)) (t .2)
+    ∙ kind-again (kindAt l i) (parametersAt l i) (t .0) (length-words (parametersIn (kindOf (kindAt l i))) (drop (i + 24) l)) (t .1) .0
+
 module _ (l : List ℕ) (by : Bytes l) (q : Request) (asked : requestAt l 0 ≡ some q) where
   abbrev kind : ℕ
   kind = kindAt l 0

@@ -4,8 +4,8 @@ use mathlib.Core.Bool.{Bool, cond, _&&_, _||_}
 use mathlib.Core.List.{List, [], _∷_}
 use lib.Dec.{eqb, ltb}
 use lib.ListN.{length, getD}
-use Rattle.draws.specs.declared.Request.{Request}
-use Rattle.draws.specs.declared.Request.the-variants.{Hypergeometric, Poisson, Geometric, StandardGeometric}
+use Rattle.kinds.specs.declared.Request.{Request}
+use Rattle.kinds.specs.declared.Request.the-variants.{Hypergeometric, Poisson, Geometric, StandardGeometric}
 use Rattle.numerals.specs.declared.Number.{Number}
 use Rattle.numerals.specs.declared.Number.the-variants.{Is, Unread}
 use Rattle.numerals.specs.Digits.{number}

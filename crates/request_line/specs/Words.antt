@@ -1,9 +1,8 @@
 -- A request line's words: they are parted by one space. Assumes nothing.
 use Prim.Native.Nat.{ℕ, zero, suc, _+_}
-use mathlib.Core.Bool.{Bool, cond}
+use mathlib.Core.Bool.{Bool, true, false, cond, _&&_}
 use mathlib.Core.List.{List, [], _∷_}
 use lib.Dec.{eqb}
-use Rattle.layout.specs.Kinds.{sameAll}
 use Rattle.numerals.specs.Split.{upTo, past}
 
 abbrev pub space : ℕ
@@ -27,6 +26,9 @@ spaces (b ∷ bs) = cond (eqb b space) 1 0 + spaces bs
 unfoldable pub words : List ℕ → ℕ
 words l = spaces l + 1
 
--- the same bytes
+-- the same bytes, one after another
 abbrev pub sameText : List ℕ → List ℕ → Bool
-sameText a b = sameAll a b
+sameText [] [] = true
+sameText [] (y ∷ ys) = false
+sameText (x ∷ xs) [] = false
+sameText (x ∷ xs) (y ∷ ys) = eqb x y && sameText xs ys

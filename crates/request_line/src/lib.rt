@@ -1,6 +1,6 @@
 // A line of the pull service: which lines are read, and as what.
 use bytes::scan::find;
-use draws::Request;
+use kinds::Request;
 use numerals::Number;
 use numerals::float_bits;
 use numerals::whole_number;

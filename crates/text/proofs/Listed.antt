@@ -1,32 +1,30 @@
 -- Laws of the listing: an entry's line as it is read, the entries of a sound book and their lines, and the listing's three ways.
 -- Assumes nothing.
-use mathlib.Core.Path.{_≡_, refl, sym, ap}
+use mathlib.Core.Path.{_≡_, refl, sym, ap, _∙_}
 use mathlib.Core.List.{List, [], _∷_, _++_}
 use mathlib.Core.Option.{some}
 use Prim.Native.Nat.{ℕ, suc, _+_, _*_, _^_, _≤_, _<_}
 use native.Mathlib.Nat.{add-zero}
 use native.Mathlib.Numerals.{add-one}
 use native.Mathlib.Omega.{arith}
-use lib.Dec.{eqb}
 use lib.ListN.{length, getD, drop, length-append, drop-of-length-le}
 use lib.Seq.{drop-cons}
-use borrow.Author.Tests.{lt-ltb, le-ltb, ltb-false, eqb-true, eqb-false}
+use borrow.Author.Tests.{lt-ltb, le-ltb, ltb-false}
 use Rattle.words.specs.Words.{mostWords}
 use Rattle.words.specs.Outcome.{drawn}
 use Rattle.words.specs.Refusals.{NoneHolds}
 use Rattle.words.proofs.Exactly.{none-given}
 use Rattle.bytes_le.specs.LittleEndian.{spelled}
 use Rattle.bytes_le.proofs.Numbers.{Bytes, bytes-drop, spelled-lt}
-use Rattle.draws.specs.declared.Request.{Request}
+use Rattle.kinds.specs.Kinds.{kindNumber}
 use Rattle.layout.specs.declared.Walked.the-variants.{Damaged, Sound}
-use Rattle.layout.specs.Kinds.{shapeOf, lengthIn, kindNumber, requestOf}
-use Rattle.layout.specs.Entry.{Entry, lengthAt, kindAt, serialAt, placeAt, usedAt, countAt, parametersAt, entryAt}
+use Rattle.layout.specs.Entry.{Entry, lengthAt, kindAt, serialAt, placeAt, usedAt, countAt, entryAt}
 use Rattle.layout.specs.Book.{decode}
 use Rattle.layout.specs.Sound.{offset}
 use Rattle.layout.specs.Walk.{walked}
 use Rattle.layout.specs.Places.{HasEntry}
-use Rattle.layout.proofs.Table.{last-kind, kind-fits}
-use Rattle.layout.proofs.Decoding.{by-test, written, many}
+use Rattle.layout.proofs.Entries.{entry-tells, entry-kind}
+use Rattle.layout.proofs.Decoding.{written, many}
 use Rattle.layout.proofs.Positions.{lies-entry, lies-whole, lies-reach}
 use Rattle.layout.proofs.Walking.{walked-damaged, walked-sound}
 use Rattle.book.specs.Calls.{mostBytes, bookTooLong, isNone}
@@ -40,40 +38,33 @@ use Rattle.text.specs.Listing.{header, entryLine, entryLines, endLine, l
 
 -- ---- an entry's line
 
--- the request of a kind of the table is of that kind
-kind-known : (k : ℕ) (ps : List ℕ) → 0 < lengthIn (shapeOf k) → kindNumber (requestOf k ps) ≡ k
-unfolding requestOf
-kind-known k ps h =
-    let P : Request → Type 0 = λ r. kindNumber r ≡ k in
-    by-test P (eqb k 1) (λ e. sym (eqb-true k 1 e))
-    (λ n1. by-test P (eqb k 2) (λ e. sym (eqb-true k 2 e))
-    (λ n2. by-test P (eqb k 3) (λ e. sym (eqb-true k 3 e))
-    (λ n3. sym (last-kind k h (eqb-false k 1 n1) (eqb-false k 2 n2) (eqb-false k 3 n3)))))
-
 -- the line of the entry at i, by what the code reads there
-pub line-read : (b : List ℕ) (i s k p u c : ℕ) → HasEntry b i → s ≡ serialAt b i → k ≡ kindAt b i → p ≡ placeAt b i → u ≡ usedAt b i → c ≡ countAt b i
-    → line (decimal s ∷ decimal k ∷ decimal p ∷ decimal u ∷ decimal c ∷ []) ≡ entryLine (entryAt b i)
-unfolding entryLine entryAt
-line-read b i s k p u c h es ek ep eu ec = rw (es, ek, ep, eu, ec, kind-known (kindAt b i) (parametersAt b i) (h .known))
+pub line-read : (b : List ℕ) (i : ℕ) (e : Entry) → entryAt b i ≡ some e → (s k p u c : ℕ) → s ≡ serialAt b i → k ≡ kindAt b i → p ≡ placeAt b i → u ≡ usedAt b i → c ≡ countAt b i
+    → line (decimal s ∷ decimal k ∷ decimal p ∷ decimal u ∷ decimal c ∷ []) ≡ entryLine e
+unfolding entryLine
+line-read b i e here s k p u c es ek ep eu ec =
+    let is = entry-tells b i e here .2 in
+    rw (es, ek, ep, eu, ec, ← entry-kind b i e here)
+    (ap (λ (x : Entry). line (decimal (x .serial) ∷ decimal (kindNumber (e .request)) ∷ decimal (x .place) ∷ decimal (x .used) ∷ decimal (x .count) ∷ [])) (sym is))
 
 -- a number read from w bytes has at most k digits, where none of w bytes reaches 10^k
 pub digits-read : (w k : ℕ) (b : List ℕ) (i r : ℕ) → Bytes b → r ≡ spelled w (drop i b) → 0 < k → 256 ^ w ≤ 10 ^ k → length (decimal r) ≤ k
 digits-read w k b i r by e p h = length-decimal r k p (omega (arith, spelled-lt w (drop i b) (bytes-drop b i by)))
 
 -- an entry's line has at most 60 bytes
-pub line-room : (b : List ℕ) (i : ℕ) → Bytes b → length (entryLine (entryAt b i)) ≤ 60
-unfolding entryLine entryAt line
-line-room b i by =
+pub line-room : (b : List ℕ) (i : ℕ) (e : Entry) → Bytes b → entryAt b i ≡ some e → length (entryLine e) ≤ 60
+line-room b i e by here =
+    rw (← line-read b i e here (serialAt b i) (kindAt b i) (placeAt b i) (usedAt b i) (countAt b i) refl refl refl refl refl)
+    (unfold line in
     simp length-append
     (omega (
       arith,
       digits-read 4 10 b (i + 4) (serialAt b i) by refl (omega arith) (omega arith),
-      length-decimal (kindNumber (requestOf (kindAt b i) (parametersAt b i))) 5 (omega arith)
-          (omega (arith, kind-fits (requestOf (kindAt b i) (parametersAt b i)))),
+      digits-read 2 5 b (i + 2) (kindAt b i) by refl (omega arith) (omega arith),
       digits-read 4 10 b (i + 8) (placeAt b i) by refl (omega arith) (omega arith),
       digits-read 4 10 b (i + 12) (usedAt b i) by refl (omega arith) (omega arith),
       digits-read 8 20 b (i + 16) (countAt b i) by refl (omega arith) (omega arith),
-    ))
+    )))
 
 -- lines of at most 60 bytes each take at most 60 times their number
 lines-room : (es : List Entry) (d : Entry) → ((i : ℕ) → i < length es → length (entryLine (getD es i d)) ≤ 60) → length (entryLines es) ≤ 60 * length es
@@ -90,7 +81,7 @@ module _ (b : List ℕ) (by : Bytes b) (h : NoneHolds (listingRefusals b)) where
   decodes = is-some (decode mostWords b) (h .1 .0)
 
   -- each stands where its offset says
-  entry-here : (i : ℕ) → i < length (entriesIn b) → entryAt b (offset b i) ≡ getD (entriesIn b) i blank
+  entry-here : (i : ℕ) → i < length (entriesIn b) → entryAt b (offset b i) ≡ some (getD (entriesIn b) i blank)
   entry-here = lies-entry mostWords b (entriesIn b) by decodes blank
 
   -- the entry i, which begins at `from`
@@ -104,19 +95,23 @@ module _ (b : List ℕ) (by : Bytes b) (h : NoneHolds (listingRefusals b)) where
     unfolding offset
     entry-reach = rw here (lies-reach mostWords b (entriesIn b) by decodes blank (suc i) l i (omega arith) .1)
 
+    -- it is the one that is read there
+    pub entry-stands : entryAt b from ≡ some (getD (entriesIn b) i blank)
+    entry-stands = ap (entryAt b) here ∙ entry-here i l
+
     -- its line is the first of those that are left
-    lines-next : entryLines (drop i (entriesIn b)) ≡ entryLine (entryAt b from) ++ entryLines (drop (i + 1) (entriesIn b))
+    lines-next : entryLines (drop i (entriesIn b)) ≡ entryLine (getD (entriesIn b) i blank) ++ entryLines (drop (i + 1) (entriesIn b))
     unfolding entryLines
-    lines-next = rw (drop-cons (entriesIn b) i blank l, here, entry-here i l, add-one i)
+    lines-next = rw (drop-cons (entriesIn b) i blank l, add-one i)
 
     -- with its line written, the lines of those after it are what is left
-    pub lines-turn : {o m d : List ℕ} {x y z : ℕ} → Writes o x (entryLine (entryAt b from)) m y → Writes m y (entryLines (drop (i + 1) (entriesIn b))) d z
+    pub lines-turn : {o m d : List ℕ} {x y z : ℕ} → Writes o x (entryLine (getD (entriesIn b) i blank)) m y → Writes m y (entryLines (drop (i + 1) (entriesIn b))) d z
         → Writes o x (entryLines (drop i (entriesIn b))) d z
     lines-turn v w = rw lines-next (written-next _ _ _ _ _ _ _ _ v w)
 
   -- the room that all their lines take
   pub entries-room : length (entryLines (entriesIn b)) ≤ 60 * length (entriesIn b)
-  entries-room = lines-room (entriesIn b) blank (λ i l. rw (entry-here i l) at (line-room b (offset b i) by))
+  entries-room = lines-room (entriesIn b) blank (λ i l. line-room b (offset b i) (getD (entriesIn b) i blank) by (entry-here i l))
 
   -- a book has at most 2,730 entries
   pub entries-few : length (entriesIn b) ≤ 2730

@@ -6,7 +6,7 @@ use lib.ListN.{length}
 use Rattle.words.specs.Outcome.{Outcome, drawn, refused}
 use Rattle.words.specs.Refusals.{Condition, _on_, given}
 use Rattle.words.specs.Words.{mostWords}
-use Rattle.layout.specs.Kinds.{kindNumber}
+use Rattle.kinds.specs.Kinds.{kindNumber}
 use Rattle.layout.specs.Entry.{Entry}
 use Rattle.layout.specs.Book.{decode}
 use Rattle.book.specs.Calls.{bookTooLong, isNone}

@@ -21,7 +21,7 @@ ghost use Prim.Native.Nat.{_+_, _*_, _^_, _≤_, _<_};
 ghost use lib.ListN.{length};
 ghost use Rattle.words.specs.Paper.{numberOf};
 ghost use Rattle.words.specs.Refusals.{NoneHolds};
-ghost use Rattle.layout.specs.Entry.{entryAt};
+ghost use Rattle.layout.specs.Entry.{Entry, entryAt};
 ghost use Rattle.layout.specs.Places.{HasEntry};
 ghost use Rattle.book.specs.Deliver.{delivered};
 ghost use Rattle.book.specs.Strike.{struck};
@@ -70,7 +70,7 @@ fn put_numbered(out: &mut [u8], at: usize, text: &[u8], n: u64) -> usize
 // Writes the line of the entry at `from`.
 fn put_entry_line(book: &[u8], from: usize, out: &mut [u8], at: usize) -> usize
     requires { ⌜ HasEntry (now book) from × (at + 60 ≤ length (now out)) ⌝ }
-    ensures { λ r. ⌜ Writes (now (out .entry)) at (entryLine (entryAt (now (book .entry)) from)) (now (out .exit)) r ⌝ }
+    ensures { λ r. ⌜ ((e : Entry) → entryAt (now (book .entry)) from ≡ some e → Writes (now (out .entry)) at (entryLine e) (now (out .exit)) r) ⌝ }
 {
     let mut next = put_number(out, at, read_le(book, from + SERIAL, 4), b' ');
     next = put_number(out, next, read_le(book, from + KIND, 2), b' ');

@@ -2,18 +2,21 @@
 use borrow.Author.Needs.{needs}
 use mathlib.Core.Path.{_≡_, refl}
 use mathlib.Core.List.{List}
+use mathlib.Core.Option.{some}
 use Prim.Native.Nat.{ℕ, _+_, _*_, _-_, _≤_, _<_}
 use native.Mathlib.Omega.{arith}
-use lib.ListN.{length, drop}
+use lib.ListN.{length, getD, drop}
 use Rattle.words.specs.Refusals.{NoneHolds}
 use Rattle.bytes_le.proofs.Numbers.{Bytes}
+use Rattle.layout.specs.Entry.{Entry, entryAt}
 use Rattle.layout.specs.Sound.{offset}
 use Rattle.layout.specs.Places.{HasEntry}
 use Rattle.layout.proofs.Walking.{offset-next}
+use Rattle.book.specs.Deliver.{blank}
 use Rattle.book.proofs.Opening.{fields-within}
 use Rattle.numerals.specs.Writing.{Writes}
 use Rattle.text.specs.Listing.{entriesIn, entryLines, listingRefusals}
-use Rattle.text.proofs.Listed.{line-room, entry-whole, entry-reach, lines-turn, lines-done}
+use Rattle.text.proofs.Listed.{line-room, entry-whole, entry-reach, entry-stands, lines-turn, lines-done}
 use Rattle.text.proofs.put_entries.Statement.{statement}
 use Rattle.text.proofs.put_entries.Tie as tie
 
@@ -51,6 +54,12 @@ module _ (c : tie.In-loop Inv-loop μ-loop) where
   here : from ≡ offset b i
   here = c .before .loop .inv .1
 
+  abbrev stood : Entry
+  stood = getD (entriesIn b) i blank
+
+  there : entryAt b from ≡ some stood
+  there = entry-stands b by is-sound i less from here
+
   whole : HasEntry b from
   whole = entry-whole b by is-sound i less from here
 
@@ -79,10 +88,10 @@ loop-again : tie.Need-loop-again Inv-loop μ-loop
 loop-again c =
     let n = c .before .before .before .before .before in
     let l = n .before .loop in
-    let w = c .before .before .before .put-entry-line .ensures in (
+    let w = c .before .before .before .put-entry-line .ensures (stood n) (there n) in (
       search needs,
       offset-next (b n) (from n) (i n) _ (here n) (c .read-le .ensures),
-      omega (arith, w .place, line-room (b n) (from n) (by n)),
+      omega (arith, w .place, line-room (b n) (from n) (stood n) (by n) (there n)),
       search needs,
       λ m j v. l .inv .4 m j (lines-turn (b n) (by n) (is-sound n) (i n) (less n) (from n) (here n) w v),
     )

@@ -115,13 +115,13 @@ same-length : tie.Need-same-length
 same-length c = search needs
 
 returns : tie.Need-returns
-returns c =
+returns c e here =
     let n5 = c .before .before in
     let n4 = n5 .before .before .before .before .before in
     let n3 = n4 .before .before .before .before .before in
     let n2 = n3 .before .before .before .before .before in
     let n1 = n2 .before .before .before .before .before in
-    rw (← line-read _ _ _ _ _ _ _ (n1 .before .before .before .before .before .pre .0) (n1 .before .read-le .ensures) (n2 .before .read-le2 .ensures)
+    rw (← line-read _ _ e here _ _ _ _ _ (n1 .before .read-le .ensures) (n2 .before .read-le2 .ensures)
     (n3 .before .read-le3 .ensures) (n4 .before .read-le4 .ensures) (n5 .before .read-le5 .ensures))
     (word-next _ _ _ (n1 .put-number .ensures)
     (word-next _ _ _ (n2 .put-number2 .ensures)
