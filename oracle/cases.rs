@@ -11,14 +11,15 @@ const HEADER: usize = 9;
 /// A population above this is refused by the other side.
 pub const CAP: u64 = 1_048_576;
 
-/// What is drawn, by its number in a case.
+/// What is drawn, by its number in a case: a kind's own, or 1,000 more for draws from a kept set-up
+/// of that kind, so that no kind to come has the number.
 #[derive(Clone, Copy, Debug, PartialEq)]
 pub enum Kind {
     Hypergeometric = 1,
     Poisson = 2,
     Geometric = 3,
     Standard = 4,
-    Kept = 5,
+    Kept = 1_001,
 }
 
 /// The kinds in the order in which they are reported, each with its name there.
@@ -201,7 +202,8 @@ impl<W: Write> Writer<W> {
         }
         self.block.extend(case.header());
         self.block.extend(&case.tape);
-        self.tallies[case.kind as usize - 1].count(case);
+        let place = KINDS.iter().position(|&(kind, _)| kind == case.kind);
+        self.tallies[place.expect("every kind is in KINDS")].count(case);
         Ok(())
     }
 
@@ -218,8 +220,7 @@ impl<W: Write> Writer<W> {
         self.out.flush()?;
         let mut all = Tally::default();
         let mut lines = String::new();
-        for (kind, name) in KINDS {
-            let tally = &self.tallies[kind as usize - 1];
+        for ((_, name), tally) in KINDS.iter().zip(&self.tallies) {
             if tally.cases > 0 {
                 all.add(tally);
                 lines += &format!("{}\n", tally.line(name));

@@ -104,7 +104,12 @@ fn copy_at(book: &[u8], at: usize, request: Request) -> Delivered
     ensures { λ r. ⌜ ((e : Entry) → entryAt (now (book .entry)) at ≡ some e → delivered r ≡ given (14 on not (sameRequest (e .request) request) ∷ []) (copied e)) ⌝ }
 {
     let row = row_at(book, at);
-    let Row::Of { length: _, parameters: _, request: booked } = row else {
+    let Row::Of {
+        length: _,
+        parameters: _,
+        request: booked,
+    } = row
+    else {
         return Delivered::Refused(Refusal::SerialReused);
     };
     if same(booked, request) {
@@ -240,7 +245,12 @@ fn agrees_at(tape: &[u64], book: &[u8], at: usize) -> bool
 {
     let place = read_le(book, at + PLACE, 4) as usize;
     let row = row_at(book, at);
-    let Row::Of { length: _, parameters: _, request } = row else {
+    let Row::Of {
+        length: _,
+        parameters: _,
+        request,
+    } = row
+    else {
         return false;
     };
     match draws::draw(&tape[place..], request) {

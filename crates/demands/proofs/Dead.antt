@@ -9,11 +9,12 @@ use lib.ListN.{getD, replicate}
 use Rattle.words.specs.declared.Refusal.{Refusal}
 use Rattle.words.specs.Words.{tooLong}
 use Rattle.words.specs.Rule.{read}
-use Rattle.draws.specs.declared.Request.the-variants.{StandardGeometric}
-use Rattle.draws.specs.Request.{parameterRefusals, readingOf}
+use Rattle.words.specs.Draw.{endings}
+use Rattle.kinds.specs.declared.Request.the-variants.{StandardGeometric}
+use Rattle.geometric.specs.Standard.{standardGeometric}
 use Rattle.bytes_le.specs.LittleEndian.{bytesOf, spelled, wordsFrom}
 use Rattle.bytes_le.specs.Zeros.{allZero}
-use Rattle.layout.specs.Kinds.{shapeOf, requestOf, sameRequest}
+use Rattle.kinds.specs.Kinds.{numbered, kindOf, requestOf, parametersOf, sameRequest}
 use Rattle.layout.specs.Entry.{parameterBytes, fixedBytes, entryBytes, entryAt}
 use Rattle.layout.specs.Book.{lengthAll, usedAll, head, decodeFrom, decode}
 use Rattle.book.specs.declared.Delivered.{Delivered}
@@ -52,7 +53,7 @@ untouched a e =
 
 -- one that books the first delivery and only nods at the next: two words and room for two
 pub nods : (a : Delivered) → DeliverAllows (1 ∷ 1 ∷ []) (workedBook ++ replicate 24 0) 2 StandardGeometric a (workedBook ++ replicate 24 0) → ⊥
-unfolding leadingZeros tooLong read parameterRefusals readingOf bytesOf spelled allZero shapeOf requestOf sameRequest parameterBytes fixedBytes entryBytes wordsFrom entryAt lengthAll usedAll head decodeFrom decode bookTooLong isDamaged booked isFull freshRefusals deliverRefusals delivery deliverTo deliver
+unfolding leadingZeros tooLong read endings standardGeometric bytesOf spelled allZero numbered kindOf requestOf parametersOf sameRequest parameterBytes fixedBytes entryBytes wordsFrom entryAt lengthAll usedAll head decodeFrom decode bookTooLong isDamaged booked isFull freshRefusals deliverRefusals delivery deliverTo deliver
 nods a e =
     let z : _≡_ {A = ℕ} 0 24 = ap (λ (x : Call Booking). getD (x .book) 24 0) e in
     omega arith

@@ -11,9 +11,10 @@ use lib.ListN.{length, drop}
 use borrow.Author.Tests.{eq-eqb, eqb-true}
 use Rattle.words.specs.Outcome.{Outcome, drawn, refused}
 use Rattle.words.specs.Refusals.{Condition, _on_, given, First, NoneHolds}
-use Rattle.words.specs.Draw.{endsBy}
+use Rattle.words.specs.Draw.{shorts, endsBy, endings}
 use Rattle.words.proofs.Exactly.{SomeFirst, exactly, drawn-exactly, some-after, none-given}
-use Rattle.draws.specs.declared.Request.{Request}
+use Rattle.words.proofs.Short.{ended-first}
+use Rattle.kinds.specs.declared.Request.{Request}
 use Rattle.draws.specs.Request.{parameterRefusals, readingOf}
 use Rattle.draws.proofs.Laws.{request-ends}
 use Rattle.draws.proofs.Demand2 as draws
@@ -46,14 +47,14 @@ freshly-refused : (o : Outcome ℕ) (n : ℕ) → freshly o ≡ refused n → o 
 freshly-refused (drawn c u) n e = cc
 freshly-refused (refused m) n e = cc
 
--- a delivery that comes to a refusal by itself has called for a word past the tape's end, and 10 is on its list
+-- a delivery that comes to a refusal by itself has called for a word past the tape's end, and that refusal is on its list
 pub fresh-covered : (vs b : List ℕ) (end : ℕ) (r : Request) (n : ℕ) → readingOf r vs ≡ refused n → SomeFirst (freshRefusals vs b end r)
 unfolding freshRefusals
 fresh-covered vs b end r n e =
-    let ends : endsBy 10 (readingOf r vs) ≡ true = ap (endsBy 10) e ∙ eq-eqb n 10 (request-ends r vs n e) in
     let full : Condition = 15 on isFull b end r in
-    let short : List Condition = 10 on endsBy 10 (readingOf r vs) ∷ [] in
-    some-after (parameterRefusals r) (full ∷ short) (some-after (full ∷ []) short (10, inl (ends, refl)))
+    let short : List Condition = endings shorts (readingOf r vs) in
+    some-after (parameterRefusals r) (full ∷ short)
+    (some-after (full ∷ []) short (n, ended-first shorts (readingOf r vs) n e (request-ends r vs n e)))
 
 delivery-covered : (ws b : List ℕ) (es : List Entry) (s : ℕ) (r : Request) (n : ℕ) → delivery ws es s r ≡ refused n
     → SomeFirst (deliverRefusals ws b es s r)

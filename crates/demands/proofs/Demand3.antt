@@ -11,12 +11,12 @@ use borrow.Author.Tests.{eq-eqb}
 use Rattle.words.specs.Words.{mostWords}
 use Rattle.words.specs.Outcome.{Outcome, drawn}
 use Rattle.words.specs.Refusals.{NoneHolds}
-use Rattle.draws.specs.declared.Request.{Request}
+use Rattle.kinds.specs.declared.Request.{Request}
 use Rattle.draws.specs.Request.{drawOf}
-use Rattle.layout.specs.Kinds.{lengthOf, RequestFits}
+use Rattle.kinds.specs.Kinds.{lengthOf, RequestFits}
 use Rattle.layout.specs.Entry.{Entry, booking}
 use Rattle.layout.specs.Book.{entriesBytes, lengthAll, usedAll, encode}
-use Rattle.layout.proofs.Table.{same-self}
+use Rattle.kinds.proofs.Requests.{same-self}
 use Rattle.layout.proofs.Decoding.{Chain, zeros-equal}
 use Rattle.layout.proofs.Positions.{length-all-append, chain-mid}
 use Rattle.book.specs.Calls.{Call, call, mostBytes, booked, limits, standing}

@@ -9,7 +9,8 @@ use lib.Ieee.{binary64, round}
 use lib.Ieee.Bits.{toBits-lt}
 use lib.Ieee.Fits.{round-fits}
 use lib.ListN.{length, drop, replicate}
-use Rattle.draws.specs.declared.Request.{Request}
+use Rattle.kinds.specs.declared.Request.{Request}
+use Rattle.kinds.specs.Kinds.{numbered, kindOf, parametersOf}
 use Rattle.layout.proofs.Decoding.{by-test}
 use Rattle.numerals.specs.declared.Number.{Number}
 use Rattle.numerals.specs.declared.Number.the-variants as read
@@ -88,7 +89,7 @@ FitsBy f x = LineFits (f x)
 module _ (l : List ℕ) where
   -- the request of a delivery, of each kind
   request-fits : (s : ℕ) → LineFits (onAsked (requestAsked l) (λ (r : Request). Deliver s r) Unread)
-  unfolding requestAsked trayAsked poissonAsked geometricAsked
+  unfolding requestAsked trayAsked poissonAsked geometricAsked numbered kindOf parametersOf
   request-fits s =
       let P = FitsBy (λ a. onAsked a (λ (r : Request). Deliver s r) Unread) in
       by-test P (isForm 6 2 hypergeometricText l)

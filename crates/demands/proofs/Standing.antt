@@ -12,18 +12,18 @@ use borrow.Author.Tests.{lt-ltb, le-ltb, eqb-true, eqb-false, ltb-false, not-fal
 use Rattle.words.specs.Words.{mostWords}
 use Rattle.words.specs.Outcome.{Outcome, drawn, refused}
 use Rattle.words.specs.Refusals.{Condition, _on_, First, NoneHolds}
-use Rattle.words.specs.Draw.{endsBy}
+use Rattle.words.specs.Draw.{shorts, endings}
 use Rattle.words.proofs.Tape.{limit-within}
 use Rattle.words.proofs.Exactly.{none-before}
 use Rattle.words.proofs.Drawing.{accepted-exactly, accepted-reading}
 use Rattle.bytes_le.specs.Zeros.{wiped}
-use Rattle.draws.specs.declared.Request.{Request}
-use Rattle.draws.specs.Request.{parameterRefusals, readingOf, drawOf}
+use Rattle.kinds.specs.declared.Request.{Request}
+use Rattle.draws.specs.Request.{drawing, parameterRefusals, readingOf, drawOf}
 use Rattle.draws.proofs.Laws as draws
-use Rattle.layout.specs.Kinds.{lengthOf, RequestFits}
+use Rattle.kinds.specs.Kinds.{lengthOf, RequestFits}
 use Rattle.layout.specs.Entry.{Entry, booking}
 use Rattle.layout.specs.Book.{lengthAll, usedAll, encode}
-use Rattle.layout.proofs.Table.{same-exactly}
+use Rattle.kinds.proofs.Requests.{same-exactly}
 use Rattle.layout.proofs.Entries.{Fits}
 use Rattle.layout.proofs.Decoding.{by-test, neither-holds, Chain, many, length-encode, encode-decodes}
 use Rattle.layout.proofs.Changing.{chain-snoc, append-encode, wiped-encode}
@@ -87,12 +87,12 @@ stands-left ws n xs ys st =
 -- a fresh delivery passes its conditions and reads a count exactly where there is room for it and its request draws that count
 pub fresh-exactly : (vs b : List ℕ) (end : ℕ) (r : Request) (c u : ℕ) → length vs ≤ mostWords
     → (NoneHolds (freshRefusals vs b end r) × (readingOf r vs ≡ drawn c u)) ↔ ((isFull b end r ≡ false) × (drawOf r vs ≡ drawn c u))
-unfolding freshRefusals drawOf
+unfolding freshRefusals
 fresh-exactly vs b end r c u le =
     let ps : List Condition = parameterRefusals r in
-    let ends : List Condition = 10 on endsBy 10 (readingOf r vs) ∷ [] in
+    let ends : List Condition = endings shorts (readingOf r vs) in
     let full : Condition = 15 on isFull b end r in
-    let law = accepted-exactly vs ps (readingOf r vs) c u in (
+    let law = accepted-exactly (drawing r) vs c u in (
       λ h.
           let rest : NoneHolds (full ∷ ends) = none-after ps (full ∷ ends) (h .0) in
           (rest .0, law .1 ((limit-within vs le, none-append ps ends (none-before ps (full ∷ ends) (h .0)) (rest .1)), h .1)),
@@ -132,9 +132,8 @@ module _ (ws : List ℕ) (n : ℕ) (within : length ws ≤ mostWords) (small : n
     new = booking r (length es + 1) (usedAll es) u c
 
     on-tape : usedAll es + u ≤ length ws
-    unfolding drawOf
     on-tape =
-        let reads : readingOf r vs ≡ drawn c u = accepted-reading vs (parameterRefusals r) (readingOf r vs) c u drew in
+        let reads : readingOf r vs ≡ drawn c u = accepted-reading (drawing r) vs c u drew in
         omega (arith, st .tape, draws.request-within r vs c u reads, length-drop (usedAll es) ws)
 
     new-fits : RequestFits r → Fits new
@@ -144,7 +143,7 @@ module _ (ws : List ℕ) (n : ℕ) (within : length ws ≤ mostWords) (small : n
           serial-fits = omega (arith, many es);
           place-fits = omega (arith, on-tape);
           used-fits = omega (arith, on-tape);
-          count-fits = draws.count-fits r c (draws.request-bounds r vs c u drew .0);
+          count-fits = draws.request-count r vs c u drew;
         }
 
     -- its entry stands after the others

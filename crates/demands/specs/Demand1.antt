@@ -8,7 +8,7 @@ use Rattle.words.specs.Outcome.{Outcome, drawn, refused, countOf, usedOf}
 use Rattle.words.specs.Paper.{paper}
 use Rattle.hypergeometric.specs.declared.SetUp.{SetUp}
 use Rattle.hypergeometric.specs.Hypergeometric.{setUpPaper}
-use Rattle.draws.specs.declared.Request.{Request}
+use Rattle.kinds.specs.declared.Request.{Request}
 use Rattle.book.specs.declared.Delivered.{Delivered}
 use Rattle.book.specs.declared.Struck.{Struck}
 use Rattle.book.specs.declared.Redrawn.{Redrawn}

@@ -8,7 +8,7 @@ use mathlib.Core.Path.{_≡_}
 use lib.ListN.{length}
 use Rattle.words.specs.Outcome.{drawn, refused}
 use Rattle.words.specs.Refusals.{Condition, First, NoneHolds}
-use Rattle.draws.specs.declared.Request.{Request}
+use Rattle.kinds.specs.declared.Request.{Request}
 use Rattle.draws.specs.Demand2 as draws
 use Rattle.book.specs.declared.Delivered.{Delivered}
 use Rattle.book.specs.declared.Struck.{Struck}

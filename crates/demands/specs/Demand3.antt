@@ -7,8 +7,8 @@ use mathlib.Core.Path.{_≡_}
 use lib.ListN.{length, take, replicate}
 use Rattle.words.specs.Words.{mostWords}
 use Rattle.words.specs.Outcome.{Outcome, drawn, refused}
-use Rattle.draws.specs.declared.Request.{Request}
-use Rattle.layout.specs.Kinds.{RequestFits}
+use Rattle.kinds.specs.declared.Request.{Request}
+use Rattle.kinds.specs.Kinds.{RequestFits}
 use Rattle.book.specs.declared.Delivered.{Delivered}
 use Rattle.book.specs.declared.Struck.{Struck}
 use Rattle.book.specs.Calls.{call, mostBytes}

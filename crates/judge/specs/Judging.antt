@@ -4,8 +4,8 @@ use Prim.Native.Nat.{ℕ}
 use mathlib.Core.Bool.{Bool, false, cond, not, _&&_}
 use lib.Dec.{eqb, leb}
 use Rattle.words.specs.Outcome.{Outcome, drawn, refused}
-use Rattle.draws.specs.declared.Request.{Request}
-use Rattle.draws.specs.declared.Request.the-variants.{Hypergeometric, Poisson, Geometric, StandardGeometric}
+use Rattle.kinds.specs.declared.Request.{Request}
+use Rattle.kinds.specs.Kinds.{kindNumber, partsOf}
 use Rattle.hypergeometric.specs.Reduction.{least, most}
 use Rattle.judge.specs.declared.Said.{Said}
 use Rattle.judge.specs.declared.Said.the-variants.{Drew, Stopped}
@@ -38,12 +38,12 @@ same (drawn c u) (refused m) = false
 same (refused n) (drawn d v) = false
 same (refused n) (refused m) = eqb n m
 
--- entry one: the Rust's count is outside the tray's support
+-- entry one: of kind 1, the Rust's count is outside the tray's support
+abbrev pub outsideTray : ℕ → ℕ → ℕ → ℕ → Bool
+outsideTray N K n c = not (leb (least N K n) c && leb c (most K n))
+
 abbrev pub isOutside : Request → ℕ → Bool
-isOutside (Hypergeometric N K n) c = not (leb (least N K n) c && leb c (most K n))
-isOutside (Poisson T) c = false
-isOutside (Geometric p) c = false
-isOutside StandardGeometric c = false
+isOutside r c = eqb (kindNumber r) 1 && outsideTray (partsOf r .first) (partsOf r .second) (partsOf r .third) c
 
 -- entry five: a threshold outside its range; entry nine: a population over the cap. The Rust has neither refusal
 abbrev pub byRefusal : ℕ → Verdict

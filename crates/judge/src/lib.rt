@@ -1,13 +1,11 @@
 // Whether a draw here is what the Rust drew over the same words, and where it isn't, which entry of docs/DIFFERENCES.md says so.
-use draws::Request;
+use kinds::Request;
+use kinds::parts_of;
 use words::Answer;
 use words::number;
 ghost use mathlib.Core.Path.{_≡_};
-ghost use mathlib.Core.Bool.{not, _&&_};
-ghost use lib.Dec.{leb};
 ghost use Rattle.words.specs.Paper.{paper};
-ghost use Rattle.hypergeometric.specs.Reduction.{least, most};
-ghost use Rattle.judge.specs.Judging.{rustDid, same, isOutside, byRefusal, apart, judged, asMarked};
+ghost use Rattle.judge.specs.Judging.{rustDid, same, outsideTray, isOutside, byRefusal, apart, judged, asMarked};
 ghost use Rattle.judge.specs.Judging as rules;
 
 // What the Rust did: it drew, or stopped where a draw here is refused by this number.
@@ -125,25 +123,20 @@ fn by_refusal(refusal: u32) -> Verdict
     }
 }
 
-// Whether the Rust's count is one that the tray can't have.
+// Whether the Rust's count is one that the tray can't have. Of the kinds that the Rust draws, only a tray has a support.
 fn is_outside(request: Request, count: u64) -> bool
     ensures { λ r. ⌜ r ≡ isOutside request count ⌝ }
 {
-    match request {
-        Request::Hypergeometric {
-            total,
-            marked,
-            sample,
-        } => outside_support(total, marked, sample, count),
-        Request::Poisson { threshold: _ } => false,
-        Request::Geometric { p: _ } => false,
-        Request::StandardGeometric => false,
+    let parts = parts_of(request);
+    if parts.kind == 1 {
+        return outside_support(parts.first, parts.second, parts.third, count);
     }
+    false
 }
 
 // Neither more than the sample or the marked, nor so few that the sample would have more unmarked than there are.
 fn outside_support(total: u64, marked: u64, sample: u64, count: u64) -> bool
-    ensures { λ r. ⌜ r ≡ not (leb (least total marked sample) count && leb count (most marked sample)) ⌝ }
+    ensures { λ r. ⌜ r ≡ outsideTray total marked sample count ⌝ }
 {
     if count > sample {
         return true;

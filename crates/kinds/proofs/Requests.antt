@@ -111,13 +111,14 @@ module _ (k : ℕ) (ps : List ℕ) (r : Request) (many : length ps ≡ parameter
   by-its-kind x e l q =
       let m = made-of k x e (getD ps 0 0) (getD ps 1 0) (getD ps 2 0) in
       let n : length ps ≡ x .parameters = many ∙ ap parametersIn e in
-      let number : kindNumber r ≡ k = ap kindNumber (sym q) ∙ m .0 ∙ l .number in
-      (number,
-      rw (number, e)
-      (ap (λ (y : Request). take (x .parameters) (three (partsOf y))) (sym q)
-      ∙ m .1
-      ∙ ap (λ (i : ℕ). take i (getD ps 0 0 ∷ getD ps 1 0 ∷ getD ps 2 0 ∷ [])) (sym n)
-      ∙ by-place ps (omega (arith, l .few))))
+      let number : kindNumber r ≡ k = ap kindNumber (sym q) ∙ m .0 ∙ l .number in (
+        number,
+        rw (number, e)
+            (ap (λ (y : Request). take (x .parameters) (three (partsOf y))) (sym q)
+            ∙ m .1
+            ∙ ap (λ (i : ℕ). take i (getD ps 0 0 ∷ getD ps 1 0 ∷ getD ps 2 0 ∷ [])) (sym n)
+            ∙ by-place ps (omega (arith, l .few))),
+      )
 
   pub kind-again : (kindNumber r ≡ k) × (parametersOf r ≡ ps)
   unfolding requestOf

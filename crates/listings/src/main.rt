@@ -1,5 +1,5 @@
 // Listings of many books, each under a title: empty and full ones, every kind, and one book for each way to be refused.
-use draws::Request;
+use kinds::Request;
 use libc::STDOUT_FILENO;
 use text::LISTING_BYTES;
 

@@ -1,7 +1,7 @@
 // Fractions of words, each with its bits, and draws of every kind on both sides of each edge, a line each: what is drawn, then the
 // count and the words used, or the refusal.
-use draws::Request;
 use hypergeometric::SetUp;
+use kinds::Request;
 use libc::STDOUT_FILENO;
 use words::Answer;
 

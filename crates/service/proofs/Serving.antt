@@ -11,7 +11,7 @@ use borrow.Author.Tests.{eqb-true, not-false}
 use Rattle.words.specs.Outcome.{Outcome, drawn, refused}
 use Rattle.bytes_le.specs.Zeros.{wiped}
 use Rattle.bytes_le.proofs.Zeros.{wipe-done}
-use Rattle.draws.specs.declared.Request.{Request}
+use Rattle.kinds.specs.declared.Request.{Request}
 use Rattle.layout.specs.Entry.{Entry}
 use Rattle.layout.specs.Book.{lengthAll}
 use Rattle.book.specs.Calls.{Call, call, booked, Standing, standing}

@@ -1,7 +1,7 @@
 // One line of the pull service: it is read, its call is made, and its answer is a line of bytes.
 use book::Delivered;
 use book::Struck;
-use draws::Request;
+use kinds::Request;
 use request_line::Line;
 use text::ANSWER_BYTES;
 use text::delivered_line;

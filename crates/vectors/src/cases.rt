@@ -2,7 +2,6 @@
 use crate::tally::KEPT;
 use crate::tally::TALLY;
 use crate::tally::note;
-use draws::Request;
 use hypergeometric::Hypergeometric;
 use hypergeometric::SetUp;
 use judge::Said;
@@ -10,11 +9,19 @@ use judge::Verdict;
 use judge::as_marked;
 use judge::judge;
 use judge::rust_did;
+use kinds::Request;
+use kinds::Row;
+use kinds::row_of;
 use words::Answer;
 ghost use Rattle.hypergeometric.specs.Hypergeometric.{FromSetUp};
 
 // The words of a case before its tape: its length, its kind, three parameters, what the Rust did, its count and used, and the entry.
 const HEADER: usize = 9;
+
+// The kind of a case of draws from a kept tray: 1,000 more than a tray's own, which no kind has.
+const KEPT_TRAY: u64 = 1_001;
+
+const MOST_KIND: u64 = 65_535;
 
 // A case's request; or that of a kept tray; or a kind that there isn't.
 enum Asked {
@@ -24,13 +31,19 @@ enum Asked {
 }
 
 fn asked_by(kind: u64, a: u64, b: u64, c: u64) -> Asked {
-    match kind {
-        1 => Asked::Draw(tray(a, b, c)),
-        2 => Asked::Draw(Request::Poisson { threshold: a }),
-        3 => Asked::Draw(Request::Geometric { p: a }),
-        4 => Asked::Draw(Request::StandardGeometric),
-        5 => Asked::Kept,
-        _ => Asked::Unknown,
+    if kind == KEPT_TRAY {
+        return Asked::Kept;
+    }
+    if kind > MOST_KIND {
+        return Asked::Unknown;
+    }
+    match row_of(kind as u16, a, b, c) {
+        Row::Of {
+            length: _,
+            parameters: _,
+            request,
+        } => Asked::Draw(request),
+        Row::Unknown => Asked::Unknown,
     }
 }
 

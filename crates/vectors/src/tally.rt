@@ -5,22 +5,21 @@ use libc::STDOUT_FILENO;
 use words::Answer;
 use words::number;
 
-// The counters: the cases of a kind at the kind's number, of these those that agree at AGREE and the kind's number, those that an entry
-// lists at a place of its own, and the others.
-pub(crate) const TALLY: usize = 24;
+// The counters: all cases first, then the cases of a kind at the kind's number; of these those that agree at AGREE and that number; those
+// that an entry lists at ENTRY and the entry's number; and the others.
+pub(crate) const TALLY: usize = 64;
 
-const AGREE: usize = 8;
+// A draw from a kept tray, past every kind's number.
+pub(crate) const KEPT: usize = 15;
 
-const ENTRY_ONE: usize = 16;
+const AGREE: usize = 16;
 
-const ENTRY_FIVE: usize = 17;
+const ENTRY: usize = 32;
 
-const ENTRY_NINE: usize = 18;
+const OTHERS: usize = 48;
 
-const OTHERS: usize = 23;
-
-// A draw from a kept tray, among the kinds.
-pub(crate) const KEPT: usize = 5;
+// Numbers of kinds, and of entries, are below this.
+const SPAN: usize = 16;
 
 // So many that differ are written out.
 const FEW: u64 = 8;
@@ -37,7 +36,7 @@ pub(crate) fn note(
     add(tally, kind);
     match verdict {
         Verdict::Agrees => add(tally, agree_place(kind)),
-        Verdict::Listed { entry } => add(tally, entry_place(entry)),
+        Verdict::Listed { entry } => add(tally, entry_place(entry as usize)),
         Verdict::Differs => {
             if tally[OTHERS] < FEW {
                 tell(tally[0], kind, here, rust);
@@ -54,16 +53,11 @@ fn add(tally: &mut [u64; TALLY], place: usize) {
 }
 
 fn agree_place(kind: usize) -> usize {
-    if kind < AGREE { AGREE + kind } else { OTHERS }
+    if kind < SPAN { AGREE + kind } else { OTHERS }
 }
 
-fn entry_place(entry: u64) -> usize {
-    match entry {
-        1 => ENTRY_ONE,
-        5 => ENTRY_FIVE,
-        9 => ENTRY_NINE,
-        _ => OTHERS,
-    }
+fn entry_place(entry: usize) -> usize {
+    if entry < SPAN { ENTRY + entry } else { OTHERS }
 }
 
 // ---- what is written
@@ -104,9 +98,9 @@ pub(crate) fn report(tally: &[u64; TALLY]) {
     say_kind(b"poisson", tally[2], tally[AGREE + 2]);
     say_kind(b"geometric", tally[3], tally[AGREE + 3]);
     say_kind(b"standard", tally[4], tally[AGREE + 4]);
-    say_count(b"entry 1", tally[ENTRY_ONE]);
-    say_count(b"entry 5", tally[ENTRY_FIVE]);
-    say_count(b"entry 9", tally[ENTRY_NINE]);
+    say_count(b"entry 1", tally[ENTRY + 1]);
+    say_count(b"entry 5", tally[ENTRY + 5]);
+    say_count(b"entry 9", tally[ENTRY + 9]);
     say_count(b"cases", tally[0]);
     say_count(b"others", tally[OTHERS]);
 }

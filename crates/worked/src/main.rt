@@ -2,7 +2,7 @@
 use book::Delivered;
 use book::Redrawn;
 use book::Struck;
-use draws::Request;
+use kinds::Request;
 use libc::STDOUT_FILENO;
 use words::Refusal;
 
