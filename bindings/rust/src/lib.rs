@@ -564,8 +564,8 @@ mod tests {
     }
 
     #[test]
-    #[should_panic(expected = "libbanlothek has no refusal 18")]
-    fn there_is_no_eighteenth() {
-        let _ = refused(18, 0).accepted();
+    #[should_panic(expected = "libbanlothek has no refusal 4294967295")]
+    fn a_number_that_is_no_refusal() {
+        let _ = refused(u32::MAX, 0).accepted();
     }
 }

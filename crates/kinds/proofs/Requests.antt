@@ -16,7 +16,7 @@ use Rattle.kinds.specs.declared.Request.{Request}
 use Rattle.kinds.specs.declared.Row.the-variants.{Of, Unknown}
 use Rattle.kinds.specs.declared.Request.the-variants.{Hypergeometric, Poisson, Geometric, StandardGeometric}
 use Rattle.kinds.specs.Kinds.{Kind, table, numbered, kindOf, lengthIn, parametersIn, requestOf, partsOf, kindNumber, three, parametersOf, lengthOf, Alike, sameParts, sameRequest, row, rowOf}
-use Rattle.kinds.proofs.Table.{both-true, row-none, Listed, listed, by-kind, shape-length, known}
+use Rattle.kinds.proofs.Table.{both-true, row-none, Each, Listed, listed, by-kind, shape-length, known}
 
 -- a request is the one of its kind and parameters: a line a kind
 pub request-again : (r : Request) → requestOf (kindNumber r) (parametersOf r) ≡ some r
@@ -34,10 +34,6 @@ Made x =
     (a b c : ℕ)
     → (kindNumber (x .makes a b c) ≡ x .number)
     × (take (x .parameters) (three (partsOf (x .makes a b c))) ≡ take (x .parameters) (a ∷ b ∷ c ∷ []))
-
-abbrev Each : (Kind → Type 0) → List Kind → Type 0
-Each P [] = Unit
-Each P (x ∷ xs) = P x × Each P xs
 
 -- every kind of the table, by computation
 made : Each Made table

@@ -6,10 +6,10 @@ use mathlib.Core.Option.{Option, none, some}
 use Prim.Native.Nat.{ℕ, _+_, _*_, _≤_, _<_}
 use native.Mathlib.Omega.{arith}
 use lib.Dec.{eqb, ltb, leb}
-use borrow.Author.Tests.{eqb-true, ltb-true, leb-true}
+use borrow.Author.Tests.{ne-eqb, eqb-true, ltb-true, leb-true}
 use Rattle.kinds.specs.declared.Request.{Request}
 use Rattle.kinds.specs.declared.Row.the-variants.{Of, Unknown}
-use Rattle.kinds.specs.Kinds.{Kind, table, numbered, kindOf, lengthIn, parametersIn, row}
+use Rattle.kinds.specs.Kinds.{Kind, table, numbered, kindOf, lengthIn, parametersIn, row, rowOf}
 
 -- both tests are passed
 pub both-true : (a b : Bool) → a && b ≡ true → (a ≡ true) × (b ≡ true)
@@ -27,6 +27,22 @@ row-tells (some x) a b c l n q e = (cc, cc)
 pub row-none : (o : Option Kind) (a b c : ℕ) → Unknown ≡ row o a b c → o ≡ none
 row-none none a b c e = refl
 row-none (some x) a b c e = let z : _≡_ {A = ℕ} 0 1 = cc in absurd (omega arith)
+
+-- ---- every kind of a list
+
+abbrev pub Each : (Kind → Type 0) → List Kind → Type 0
+Each P [] = Unit
+Each P (x ∷ xs) = P x × Each P xs
+
+-- a number that no kind of the list has stands for none
+unnumbered : (k : ℕ) (xs : List Kind) → Each (λ x. k ≡ x .number → ⊥) xs → numbered k xs ≡ none
+unfolding numbered
+unnumbered k [] h = refl
+unnumbered k (x ∷ xs) h = rw (ne-eqb k (x .number) (h .0)) (unnumbered k xs (h .1))
+
+pub row-unlisted : (k a b c : ℕ) → Each (λ x. k ≡ x .number → ⊥) table → Unknown ≡ rowOf k a b c
+unfolding kindOf
+row-unlisted k a b c h = rw (unnumbered k table h)
 
 -- ---- the test
 

@@ -1,6 +1,7 @@
 -- `kinds::row_of` meets its contract: the table, kind by kind, and no other number. Assumes nothing.
-use borrow.Author.Tests.{ne-eqb}
+use borrow.Author.Needs.{needs}
 use Rattle.kinds.specs.Kinds.{kindOf, numbered}
+use Rattle.kinds.proofs.Table.{row-unlisted}
 use Rattle.kinds.proofs.row_of.Statement.{statement}
 use Rattle.kinds.proofs.row_of.Tie as tie
 
@@ -13,4 +14,4 @@ row-of-spec =
     (λ c. rw (c .match .keys2))
     (λ c. rw (c .match .keys3))
     (λ c. rw (c .match .keys4))
-    (λ c. let r = c .match .rest in rw (ne-eqb _ _ (r .0 .0 .0 .1), ne-eqb _ _ (r .0 .0 .1), ne-eqb _ _ (r .0 .1), ne-eqb _ _ (r .1))))
+    (λ c. row-unlisted (c .before .args .kind) _ _ _ (search needs)))
