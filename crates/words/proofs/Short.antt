@@ -5,10 +5,20 @@ use mathlib.Core.List.{List, [], _∷_}
 use mathlib.Core.Logic.{inl, inr}
 use Prim.Native.Nat.{ℕ}
 use lib.Dec.{eqb}
-use borrow.Author.Tests.{eq-eqb, eqb-true}
+use borrow.Author.Tests.{eq-eqb, ne-eqb, eqb-true}
 use Rattle.words.specs.Outcome.{Outcome, drawn, refused}
 use Rattle.words.specs.Refusals.{given, First, NoneHolds}
 use Rattle.words.specs.Draw.{isOn, endsBy, endings}
+
+-- a number that is none of a list is not on it
+abbrev pub NoneOf : ℕ → List ℕ → Type 0
+NoneOf n [] = Unit
+NoneOf n (m ∷ ms) = (n ≡ m → ⊥) × NoneOf n ms
+
+pub not-on : (n : ℕ) (ms : List ℕ) → NoneOf n ms → isOn n ms ≡ false
+unfolding isOn
+not-on n [] h = refl
+not-on n (m ∷ ms) h = rw (ne-eqb n m (h .0)) (not-on n ms (h .1))
 
 -- a reading that ended by n is refused by n
 ends-is : {A : Type 0} (n : ℕ) (o : Outcome A) → endsBy n o ≡ true → o ≡ refused n

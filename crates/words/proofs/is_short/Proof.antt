@@ -1,9 +1,15 @@
 -- `words::is_short` meets its contract: the list, number by number, and no other number. Assumes nothing.
-use borrow.Author.Tests.{ne-eqb}
-use Rattle.words.specs.Draw.{isOn}
+use borrow.Author.Needs.{needs}
+use mathlib.Core.Path.{sym}
+use Rattle.words.specs.Draw.{shorts, isOn}
+use Rattle.words.proofs.Short.{not-on}
 use Rattle.words.proofs.is_short.Statement.{statement}
 use Rattle.words.proofs.is_short.Tie as tie
 
 pub is-short-spec : {M : Type 1} → statement M
 unfolding isOn
-is-short-spec = tie.close (tie.spec (λ c. rw (c .match .keys1)) (λ c. rw (ne-eqb _ _ (c .match .rest .1))))
+is-short-spec =
+    tie.close
+    (tie.spec
+    (λ c. rw (c .match .keys1))
+    (λ c. sym (not-on (c .before .args .number) shorts (search needs))))
