@@ -248,12 +248,12 @@ fn agrees_at(tape: &[u64], book: &[u8], at: usize) -> bool
     let Row::Of {
         length: _,
         parameters: _,
-        request,
+        request: booked,
     } = row
     else {
         return false;
     };
-    match draws::draw(&tape[place..], request) {
+    match draws::draw(&tape[place..], booked) {
         Answer::Refused(_) => false,
         Answer::Drawn { count, used } => {
             if count != read_le(book, at + COUNT, 8) {
