@@ -13,9 +13,9 @@ use Rattle.words.proofs.Exactly.{none-given}
 use Rattle.bytes_le.proofs.Numbers.{Bytes}
 use Rattle.kinds.specs.declared.Request.{Request}
 use Rattle.kinds.specs.Kinds.{sameRequest}
-use Rattle.layout.specs.Entry.{Entry, usedAt, countAt, requestAt, entryOf, entryAt}
+use Rattle.layout.specs.Entry.{Entry, usedAt, countAt, requestAt, entryAt}
 use Rattle.layout.specs.Sound.{offset}
-use Rattle.layout.proofs.Entries.{entry-there}
+use Rattle.layout.proofs.Entries.{entry-is}
 use Rattle.book.specs.Calls.{Call, call, booked, limits, standing}
 use Rattle.book.specs.Deliver.{Booking, copy, isNext, isAhead, bookedAt, isReused, whenNext, freshRefusals, deliverRefusals, copied, delivery, delivering, deliverTo, deliver, freshDelivery}
 use Rattle.book.proofs.Opening.{past-limits, stopped, open-entry}
@@ -107,15 +107,12 @@ module _ (ws b : List ℕ) (s : ℕ) (r : Request) where
 
 -- by the request q that was read there, and whether it is the same as r
 module _ (b : List ℕ) (i : ℕ) (r q : Request) (asked : requestAt b i ≡ some q) (z : Bool) (ez : z ≡ sameRequest q r) (e : Entry) (here : entryAt b i ≡ some e) where
-  is-entry : e ≡ entryOf q b i
-  is-entry = cc (entry-there b i q asked)
-
   same-there : sameRequest (e .request) r ≡ z
-  same-there = ap (λ (x : Entry). sameRequest (x .request) r) is-entry ∙ sym ez
+  same-there = ap (λ (x : Entry). sameRequest (x .request) r) (entry-is b i q asked e here) ∙ sym ez
 
   pub copy-told : z ≡ true → (c u : ℕ) → c ≡ countAt b i → u ≡ usedAt b i
       → drawn (copy c) u ≡ given (14 on not (sameRequest (e .request) r) ∷ []) (copied e)
-  copy-told y c u ec eu = rw (same-there, y) ((λ j. drawn (copy (ec j)) (eu j)) ∙ ap copied (sym is-entry))
+  copy-told y c u ec eu = rw (same-there, y) ((λ j. drawn (copy (ec j)) (eu j)) ∙ ap copied (sym (entry-is b i q asked e here)))
 
   pub copy-refused : z ≡ false → refused 14 ≡ given (14 on not (sameRequest (e .request) r) ∷ []) (copied e)
   copy-refused n = rw (same-there, n)

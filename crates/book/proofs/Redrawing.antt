@@ -17,9 +17,9 @@ use Rattle.words.specs.Refusals.{Condition, _on_, given, First, NoneHolds}
 use Rattle.bytes_le.proofs.Numbers.{Bytes}
 use Rattle.kinds.specs.declared.Request.{Request}
 use Rattle.draws.specs.Request.{drawOf}
-use Rattle.layout.specs.Entry.{Entry, serialAt, placeAt, usedAt, countAt, requestAt, entryOf, entryAt}
+use Rattle.layout.specs.Entry.{Entry, serialAt, placeAt, usedAt, countAt, requestAt, entryAt}
 use Rattle.layout.specs.Sound.{offset}
-use Rattle.layout.proofs.Entries.{entry-there, entry-tells}
+use Rattle.layout.proofs.Entries.{entry-is, entry-tells}
 use Rattle.book.specs.Calls.{isNone, booked, limits}
 use Rattle.book.specs.Redraw.{agrees, lowest, redrawRefusals, Redrawing, naming, redrawOf, redraw}
 use Rattle.book.specs.Deliver.{blank}
@@ -125,11 +125,8 @@ module _ (ws : List ℕ) (e : Entry) where
 -- ---- the entry at i, by what the code reads of it
 
 module _ (ws b : List ℕ) (i : ℕ) (q : Request) (asked : requestAt b i ≡ some q) (p : ℕ) (ep : p ≡ placeAt b i) (e : Entry) (here : entryAt b i ≡ some e) where
-  is-entry : e ≡ entryOf q b i
-  is-entry = cc (entry-there b i q asked)
-
   drawn-there : drawOf (e .request) (drop (e .place) ws) ≡ drawOf q (drop p ws)
-  drawn-there = ap (λ (x : Entry). drawOf (x .request) (drop (x .place) ws)) is-entry ∙ ap (λ (k : ℕ). drawOf q (drop k ws)) (sym ep)
+  drawn-there = ap (λ (x : Entry). drawOf (x .request) (drop (x .place) ws)) (entry-is b i q asked e here) ∙ ap (λ (k : ℕ). drawOf q (drop k ws)) (sym ep)
 
   pub agree-refused : (n : ℕ) → refused n ≡ drawOf q (drop p ws) → false ≡ agrees ws e
   agree-refused n d = agrees-refused ws e n (drawn-there ∙ sym d)
@@ -138,7 +135,7 @@ module _ (ws b : List ℕ) (i : ℕ) (q : Request) (asked : requestAt b i ≡ so
     both : (used : ℕ) → used ≡ usedAt b i → (eqb c count && eqb u used) ≡ agrees ws e
     both used eu =
         (λ j. eqb c (ec j) && eqb u (eu j))
-        ∙ ap (λ (x : Entry). eqb c (x .count) && eqb u (x .used)) (sym is-entry)
+        ∙ ap (λ (x : Entry). eqb c (x .count) && eqb u (x .used)) (sym (entry-is b i q asked e here))
         ∙ agrees-drawn ws e c u (drawn-there ∙ sym d)
 
     pub agree-count : (c ≡ count → ⊥) → false ≡ agrees ws e

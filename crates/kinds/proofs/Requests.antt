@@ -1,10 +1,10 @@
 -- Laws of requests: each is read back from its kind's number and its parameters, and two are the same exactly where these are. Assumes nothing.
-use mathlib.Core.Path.{_≡_, refl, sym, ap, _∙_, subst}
-use mathlib.Core.Bool.{Bool, true, false, cond, _&&_}
+use mathlib.Core.Path.{_≡_, refl, sym, ap, _∙_}
+use mathlib.Core.Bool.{true, _&&_, and-eq-true-iff}
 use mathlib.Core.Logic.{_↔_}
 use mathlib.Core.List.{List, [], _∷_}
 use mathlib.Core.Option.{Option, none, some, Option·map}
-use Prim.Native.Nat.{ℕ, zero, suc, _+_, _*_, _^_, _≤_, _<_}
+use Prim.Native.Nat.{ℕ, _+_, _*_, _^_, _≤_, _<_}
 use native.Mathlib.Omega.{arith}
 use lib.Dec.{eqb}
 use lib.ListN.{length, getD, take}
@@ -16,7 +16,7 @@ use Rattle.kinds.specs.declared.Request.{Request}
 use Rattle.kinds.specs.declared.Row.the-variants.{Of, Unknown}
 use Rattle.kinds.specs.declared.Request.the-variants.{Hypergeometric, Poisson, Geometric, StandardGeometric}
 use Rattle.kinds.specs.Kinds.{Kind, table, numbered, kindOf, lengthIn, parametersIn, requestOf, partsOf, kindNumber, three, parametersOf, lengthOf, Alike, sameParts, sameRequest, row, rowOf}
-use Rattle.kinds.proofs.Table.{both-true, row-none, Each, Listed, listed, by-kind, shape-length, known}
+use Rattle.kinds.proofs.Table.{row-none, Each, found, Listed, listed, by-kind, shape-length, known}
 
 -- a request is the one of its kind and parameters: a line a kind
 pub request-again : (r : Request) → requestOf (kindNumber r) (parametersOf r) ≡ some r
@@ -40,18 +40,9 @@ made : Each Made table
 made = search needs
 
 -- so the kind with the number k keeps it
-made-by : (xs : List Kind) (k : ℕ) (x : Kind) → Each Made xs → numbered k xs ≡ some x → Made x
-unfolding numbered
-made-by [] k x m e = let z : _≡_ {A = ℕ} 0 1 = cc in absurd (omega arith)
-made-by (y ∷ ys) k x m e = go (made-by ys k x (m .1)) (eqb k (y .number)) e
-  where
-    go : (numbered k ys ≡ some x → Made x) → (t : Bool) → cond t (some y) (numbered k ys) ≡ some x → Made x
-    go rest true q = let same : y ≡ x = cc in subst Made same (m .0)
-    go rest false q = rest q
-
 made-of : (k : ℕ) (x : Kind) → kindOf k ≡ some x → Made x
 unfolding kindOf
-made-of k x e = made-by table k x made e
+made-of k x e = found Made table k x made e .1
 
 -- ---- the parameters of a request
 
@@ -153,9 +144,9 @@ same-self-parts p =
 -- parts that are the same are equal
 same-parts-equal : (p q : Parts) → sameParts p q ≡ true → p ≡ q
 same-parts-equal p q e =
-    let t = both-true (eqb (p .kind) (q .kind) && eqb (p .first) (q .first) && eqb (p .second) (q .second)) (eqb (p .third) (q .third)) e in
-    let u = both-true (eqb (p .kind) (q .kind) && eqb (p .first) (q .first)) (eqb (p .second) (q .second)) (t .0) in
-    let v = both-true (eqb (p .kind) (q .kind)) (eqb (p .first) (q .first)) (u .0) in
+    let t = and-eq-true-iff (eqb (p .kind) (q .kind) && eqb (p .first) (q .first) && eqb (p .second) (q .second)) (eqb (p .third) (q .third)) .0 e in
+    let u = and-eq-true-iff (eqb (p .kind) (q .kind) && eqb (p .first) (q .first)) (eqb (p .second) (q .second)) .0 (t .0) in
+    let v = and-eq-true-iff (eqb (p .kind) (q .kind)) (eqb (p .first) (q .first)) .0 (u .0) in
     alike-equal p q
     (record {
       kind = eqb-true (p .kind) (q .kind) (v .0);

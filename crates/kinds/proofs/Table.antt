@@ -1,20 +1,16 @@
 -- Laws of the table of kinds: what one computed test over it says of every kind. Assumes nothing.
-use mathlib.Core.Path.{_≡_, refl, sym, ap, _∙_}
-use mathlib.Core.Bool.{Bool, true, false, cond, _&&_}
+use mathlib.Core.Path.{_≡_, refl, sym, ap, _∙_, subst}
+use mathlib.Core.Bool.{Bool, true, false, cond, _&&_, and-eq-true-iff}
 use mathlib.Core.List.{List, [], _∷_}
 use mathlib.Core.Option.{Option, none, some}
 use Prim.Native.Nat.{ℕ, _+_, _*_, _≤_, _<_}
 use native.Mathlib.Omega.{arith}
 use lib.Dec.{eqb, ltb, leb}
+use borrow.Author.Needs.{needs}
 use borrow.Author.Tests.{ne-eqb, eqb-true, ltb-true, leb-true}
 use Rattle.kinds.specs.declared.Request.{Request}
 use Rattle.kinds.specs.declared.Row.the-variants.{Of, Unknown}
 use Rattle.kinds.specs.Kinds.{Kind, table, numbered, kindOf, lengthIn, parametersIn, row, rowOf}
-
--- both tests are passed
-pub both-true : (a b : Bool) → a && b ≡ true → (a ≡ true) × (b ≡ true)
-both-true true b e = (refl, e)
-both-true false b e = let z : _≡_ {A = ℕ} 0 1 = cc in absurd (omega arith)
 
 -- ---- what a row tells
 
@@ -50,14 +46,10 @@ row-unlisted k a b c h = rw (unnumbered k table h)
 isRegular : Kind → Bool
 isRegular x = eqb (x .length) (24 + 8 * x .parameters) && leb (x .parameters) 3 && ltb (x .number) 65536
 
-all : (Kind → Bool) → List Kind → Bool
-all f [] = true
-all f (x ∷ xs) = f x && all f xs
-
 -- the table, by one computation
-regular : all isRegular table ≡ true
-unfolding all isRegular
-regular = refl
+regular : Each (λ x. isRegular x ≡ true) table
+unfolding isRegular
+regular = search needs
 
 -- ---- what it says of each kind
 
@@ -68,25 +60,25 @@ pub record Listed (k : ℕ) (x : Kind) : Type 0 where
   pub few : x .parameters ≤ 3
   pub small : k < 65536
 
--- what a test over a list says of the kind that is found there
-found : (f : Kind → Bool) (xs : List Kind) (k : ℕ) (x : Kind) → all f xs ≡ true → numbered k xs ≡ some x → (x .number ≡ k) × (f x ≡ true)
-unfolding all numbered
-found f [] k x a e = let z : _≡_ {A = ℕ} 0 1 = cc in absurd (omega arith)
-found f (y ∷ ys) k x a e = go (found f ys k x (both-true (f y) (all f ys) a .1)) (eqb k (y .number)) refl e
+-- what holds of every kind of a list holds of the one that is found there by its number
+pub found : (P : Kind → Type 0) (xs : List Kind) (k : ℕ) (x : Kind) → Each P xs → numbered k xs ≡ some x → (x .number ≡ k) × P x
+unfolding numbered
+found P [] k x h e = let z : _≡_ {A = ℕ} 0 1 = cc in absurd (omega arith)
+found P (y ∷ ys) k x h e = go (found P ys k x (h .1)) (eqb k (y .number)) refl e
   where
-    go : (numbered k ys ≡ some x → (x .number ≡ k) × (f x ≡ true))
-        → (t : Bool) → eqb k (y .number) ≡ t → cond t (some y) (numbered k ys) ≡ some x → (x .number ≡ k) × (f x ≡ true)
+    go : (numbered k ys ≡ some x → (x .number ≡ k) × P x)
+        → (t : Bool) → eqb k (y .number) ≡ t → cond t (some y) (numbered k ys) ≡ some x → (x .number ≡ k) × P x
     go rest true t q =
         let same : y ≡ x = cc in
-        (ap (λ (z : Kind). z .number) (sym same) ∙ sym (eqb-true k (y .number) t), ap f (sym same) ∙ both-true (f y) (all f ys) a .0)
+        (ap (λ (z : Kind). z .number) (sym same) ∙ sym (eqb-true k (y .number) t), subst P same (h .0))
     go rest false t q = rest q
 
 pub listed : (k : ℕ) (x : Kind) → kindOf k ≡ some x → Listed k x
 unfolding kindOf isRegular
 listed k x e =
-    let h = found isRegular table k x regular e in
-    let t = both-true (eqb (x .length) (24 + 8 * x .parameters) && leb (x .parameters) 3) (ltb (x .number) 65536) (h .1) in
-    let u = both-true (eqb (x .length) (24 + 8 * x .parameters)) (leb (x .parameters) 3) (t .0) in
+    let h = found (λ y. isRegular y ≡ true) table k x regular e in
+    let t = and-eq-true-iff (eqb (x .length) (24 + 8 * x .parameters) && leb (x .parameters) 3) (ltb (x .number) 65536) .0 (h .1) in
+    let u = and-eq-true-iff (eqb (x .length) (24 + 8 * x .parameters)) (leb (x .parameters) 3) .0 (t .0) in
     record {
       number = h .0;
       length = eqb-true (x .length) (24 + 8 * x .parameters) (u .0);

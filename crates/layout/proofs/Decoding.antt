@@ -1,6 +1,6 @@
 -- The two laws of a book: what is encoded decodes, and what decodes is the encoding of its entries and zeros. Assumes nothing.
 use mathlib.Core.Path.{_≡_, refl, sym, ap, ap₂, _∙_}
-use mathlib.Core.Bool.{Bool, true, false, cond, _&&_, _||_, or-true}
+use mathlib.Core.Bool.{Bool, true, false, cond, _&&_, _||_, or-true, and-eq-true-iff}
 use mathlib.Core.List.{List, [], _∷_, _++_, append-assoc}
 use mathlib.Core.Option.{Option, none, some, Option·map}
 use Prim.Native.Nat.{ℕ, zero, suc, _+_, _*_, _-_, _<_, _≤_}
@@ -25,10 +25,6 @@ use Rattle.layout.proofs.Entries.{Fits, length-entry, entry-read, lengt
 pub by-test {ℓ κ} : {X : Type ℓ} (P : X → Type κ) (b : Bool) {x y : X} → (b ≡ true → P x) → (b ≡ false → P y) → P (cond b x y)
 by-test P true f g = f refl
 by-test P false f g = g refl
-
-pub both-hold : (a b : Bool) → (a && b) ≡ true → (a ≡ true) × (b ≡ true)
-both-hold true b e = (refl, e)
-both-hold false b e = let z : _≡_ {A = ℕ} 0 1 = cc in absurd (omega arith)
 
 pub neither-holds : (a b : Bool) → (a || b) ≡ false → (a ≡ false) × (b ≡ false)
 neither-holds true b e = let z : _≡_ {A = ℕ} 0 1 = cc in absurd (omega arith)
@@ -65,9 +61,9 @@ module _ (s p : ℕ) (l : List ℕ) where
   fitting : isEnd l ≡ false → (isFitting l && eqb (serialAt l 0) s && eqb (placeAt l 0) p) ≡ true → Fitting s p l
   fitting e f =
       let more = neither-holds (ltb (length l) 2) (eqb (lengthAt l 0) 0) e in
-      let a = both-hold (isFitting l && eqb (serialAt l 0) s) (eqb (placeAt l 0) p) f in
-      let b = both-hold (isFitting l) (eqb (serialAt l 0) s) (a .0) in
-      let c = both-hold (eqb (lengthAt l 0) (lengthIn (kindOf (kindAt l 0)))) (leb (lengthAt l 0) (length l)) (b .0) in
+      let a = and-eq-true-iff (isFitting l && eqb (serialAt l 0) s) (eqb (placeAt l 0) p) .0 f in
+      let b = and-eq-true-iff (isFitting l) (eqb (serialAt l 0) s) .0 (a .0) in
+      let c = and-eq-true-iff (eqb (lengthAt l 0) (lengthIn (kindOf (kindAt l 0)))) (leb (lengthAt l 0) (length l)) .0 (b .0) in
       record {
         begins = ltb-false (length l) 2 (more .0);
         nonzero = eqb-false (lengthAt l 0) 0 (more .1);
@@ -189,7 +185,7 @@ ended : (t s p : ℕ) (l : List ℕ) (es : List Entry) → cond {A = Option (Lis
 ended t s p l es =
     by-test (λ (o : Option (List Entry)). o ≡ some es → Written t s p l es) (isClosed t p l)
     (λ a q.
-    let z = both-hold (leb p t) (allZero l) a in
+    let z = and-eq-true-iff (leb p t) (allZero l) .0 a in
     let e : es ≡ [] = cc in
     rw e (nothing-written t s p l (leb-true p t (z .0)) (z .1)))
     (λ _ q. let z : _≡_ {A = ℕ} 0 1 = cc in absurd (omega arith))

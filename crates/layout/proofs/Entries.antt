@@ -160,6 +160,9 @@ pub entry-there : (l : List ℕ) (i : ℕ) (q : Request) → requestAt l i ≡ s
 unfolding entryAt
 entry-there l i q asked = ap (Option·map (λ (x : Request). entryOf x l i)) asked
 
+pub entry-is : (l : List ℕ) (i : ℕ) (q : Request) → requestAt l i ≡ some q → (e : Entry) → entryAt l i ≡ some e → e ≡ entryOf q l i
+entry-is l i q asked e here = cc (entry-there l i q asked)
+
 -- where the number is no kind's there is none
 entry-none : (l : List ℕ) (i : ℕ) → Unknown ≡ rowAt l i → entryAt l i ≡ none
 unfolding entryAt

@@ -10,11 +10,11 @@ use lib.Seq.{split-at, drop-drop, drop-at, take-suc, take-length, length-take-le
 use Rattle.bytes_le.specs.LittleEndian.{spelled}
 use Rattle.bytes_le.proofs.Numbers.{Bytes}
 use Rattle.kinds.specs.Kinds.{kindOf, lengthIn, kindNumber, lengthOf}
-use Rattle.layout.specs.Entry.{Entry, entryBytes, lengthAt, kindAt, serialAt, placeAt, usedAt, entryAt}
+use Rattle.layout.specs.Entry.{Entry, entryBytes, lengthAt, kindAt, serialAt, placeAt, usedAt, entryOf, entryAt}
 use Rattle.layout.specs.Book.{entriesBytes, lengthAll, usedAll, decode}
 use Rattle.layout.specs.Sound.{offset, usedBefore}
 use Rattle.layout.specs.Places.{HasEntry, Reaches}
-use Rattle.layout.proofs.Entries.{Fits, entry-read, length-read, kind-read, serial-read, place-read, used-read}
+use Rattle.layout.proofs.Entries.{Fits, entry-read, length-read, entry-tells, entry-kind}
 use Rattle.layout.proofs.Decoding.{Chain, Written, written, length-least, length-entries}
 
 -- ---- entries one after another
@@ -104,18 +104,6 @@ module _ (t : ℕ) (b : List ℕ) (es : List Entry) (by : Bytes b) (so : decode 
     length-here : lengthAt b at ≡ lengthOf (e .request)
     length-here = ap (spelled 2) front ∙ length-read e after (mid .0)
 
-    kind-here : kindAt b at ≡ kindNumber (e .request)
-    kind-here = ap (spelled 2) (sym (drop-drop 2 at b)) ∙ ap (λ (l : List ℕ). kindAt l 0) front ∙ kind-read e after (mid .0)
-
-    serial-here : serialAt b at ≡ e .serial
-    serial-here = ap (spelled 4) (sym (drop-drop 4 at b)) ∙ ap (λ (l : List ℕ). serialAt l 0) front ∙ serial-read e after (mid .0)
-
-    place-here : placeAt b at ≡ e .place
-    place-here = ap (spelled 4) (sym (drop-drop 8 at b)) ∙ ap (λ (l : List ℕ). placeAt l 0) front ∙ place-read e after (mid .0)
-
-    used-there : usedAt b at ≡ e .used
-    used-there = ap (spelled 4) (sym (drop-drop 12 at b)) ∙ ap (λ (l : List ℕ). usedAt l 0) front ∙ used-read e after (mid .0)
-
     next-here : lengthAll (take (suc i) es) ≡ at + lengthOf (e .request)
     next-here = ap lengthAll (take-suc es i d h) ∙ length-all-append (take i es) (e ∷ []) ∙ ap (λ (k : ℕ). at + k) (length-one e)
 
@@ -148,11 +136,15 @@ module _ (t : ℕ) (b : List ℕ) (es : List Entry) (by : Bytes b) (so : decode 
     pub lies-entry : entryAt b (offset b i) ≡ some (getD es i d)
     lies-entry = ap (entryAt b) low ∙ read-here i h
 
+    -- and so its fields
+    lies-fields : getD es i d ≡ entryOf (entry-tells b (offset b i) (getD es i d) lies-entry .0) b (offset b i)
+    lies-fields = entry-tells b (offset b i) (getD es i d) lies-entry .2
+
     pub lies-length : lengthAt b (offset b i) ≡ lengthOf (getD es i d .request)
     lies-length = ap (lengthAt b) low ∙ length-here i h
 
     pub lies-kind : kindAt b (offset b i) ≡ kindNumber (getD es i d .request)
-    lies-kind = ap (kindAt b) low ∙ kind-here i h
+    lies-kind = sym (entry-kind b (offset b i) (getD es i d) lies-entry)
 
     pub lies-within : offset b i + lengthOf (getD es i d .request) ≤ length b
     lies-within = omega (arith, low, room-here i h)
@@ -163,13 +155,13 @@ module _ (t : ℕ) (b : List ℕ) (es : List Entry) (by : Bytes b) (so : decode 
         record { known = omega (arith, size, length-least (getD es i d)); room = omega (arith, size, lies-within) }
 
     pub lies-serial : serialAt b (offset b i) ≡ suc i
-    lies-serial = ap (serialAt b) low ∙ serial-here i h ∙ omega (arith, mid i h .1 .0, length-take-le i es (omega arith))
+    lies-serial = ap (λ (x : Entry). x .serial) (sym lies-fields) ∙ omega (arith, mid i h .1 .0, length-take-le i es (omega arith))
 
     pub lies-place : placeAt b (offset b i) ≡ usedAll (take i es)
-    lies-place = ap (placeAt b) low ∙ place-here i h ∙ omega (arith, mid i h .1 .1)
+    lies-place = ap (λ (x : Entry). x .place) (sym lies-fields) ∙ omega (arith, mid i h .1 .1)
 
     pub lies-used : usedAll (take (suc i) es) ≡ usedAll (take i es) + usedAt b (offset b i)
-    lies-used = used-here i h ∙ ap (λ (k : ℕ). usedAll (take i es) + k) (sym (ap (usedAt b) low ∙ used-there i h))
+    lies-used = used-here i h ∙ ap (λ (k : ℕ). usedAll (take i es) + k) (ap (λ (x : Entry). x .used) lies-fields)
 
     -- its place is on the tape
     pub lies-on-tape : placeAt b (offset b i) ≤ t
