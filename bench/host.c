@@ -6,7 +6,7 @@
  *   host SIDE CALL TIMES ENTRIES BYTES   TIMES calls over a book of so many entries and bytes, which it reads: SIDE is here or none
  *   host book ENTRIES BYTES           writes such a book
  *   host rust kept TIMES              TIMES draws from one set-up
- *   host case TIMES                   writes the case for the program `kept`, of the same draws
+ *   host case TIMES                   writes the case for the program `bench_kept`, of the same draws
  *   host times ROW LABEL              times a row on both sides, and writes the ratio as a line of a table
  */
 #include "banlothek.h"
@@ -131,7 +131,7 @@ static uint64_t draw_many(const struct row *r, enum side side, long times) {
     return sum;
 }
 
-/* N, K, n, the number of draws and the words: what the program `kept` reads. */
+/* N, K, n, the number of draws and the words: what the program `bench_kept` reads. */
 static uint64_t kept[4 + KEPT_WORDS];
 
 static void fill_kept(long times) {

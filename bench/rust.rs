@@ -127,7 +127,7 @@ pub unsafe extern "C" fn rust_draw_standard_geometric(tape: *const u64, words: u
     tape.drawn(count)
 }
 
-/// As many draws from one set-up, over the tape's words counted round, as the program `kept` makes: the sum of the counts.
+/// As many draws from one set-up, over the tape's words counted round, as the program `bench_kept` makes: the sum of the counts.
 #[no_mangle]
 pub unsafe extern "C" fn rust_kept(case: *const u64, words: usize) -> u64 {
     let case = unsafe { std::slice::from_raw_parts(case, words) };

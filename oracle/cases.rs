@@ -11,8 +11,8 @@ const HEADER: usize = 9;
 /// A population above this is refused by the other side.
 pub const CAP: u64 = 1_048_576;
 
-/// What is drawn, by its number in a case: a kind's own, or 1,000 more for draws from a kept set-up
-/// of that kind, so that no kind to come has the number.
+/// What a case holds, by its number: a draw of a kind has the kind's own, and what isn't one draw of
+/// a kind a number above 1,000, so that no kind to come has it.
 #[derive(Clone, Copy, Debug, PartialEq)]
 pub enum Kind {
     Hypergeometric = 1,
@@ -20,15 +20,17 @@ pub enum Kind {
     Geometric = 3,
     Standard = 4,
     Kept = 1_001,
+    Fraction = 1_002,
 }
 
 /// The kinds in the order in which they are reported, each with its name there.
-const KINDS: [(Kind, &str); 5] = [
+const KINDS: [(Kind, &str); 6] = [
     (Kind::Hypergeometric, "hypergeometric"),
     (Kind::Kept, "kept"),
     (Kind::Poisson, "poisson"),
     (Kind::Geometric, "geometric"),
     (Kind::Standard, "standard"),
+    (Kind::Fraction, "fraction"),
 ];
 
 /// What the Rust did, by its number in a case.
@@ -56,7 +58,7 @@ pub enum Entry {
 const ENTRIES: [Entry; 4] = [Entry::None, Entry::Support, Entry::Threshold, Entry::Cap];
 
 /// A request, the tape, and what the Rust did. Of a kept tray `tape` has pairs: a word, and the
-/// count over it.
+/// count over it. A fraction has its word and its bits as parameters, and nothing else.
 pub struct Case {
     pub kind: Kind,
     pub parameters: [u64; 3],

@@ -1,7 +1,7 @@
 //! The stored list: cases for the repository's own tests, which then need no Rust at hand. It is
 //! the same each time, but for thresholds that the platform's exp gives.
 
-use crate::cases::{Case, Entry, Writer, CAP};
+use crate::cases::{Act, Case, Entry, Kind, Writer, CAP};
 use crate::chance::Chance;
 use crate::judge::{over_tape, Rate, Standard, Threshold, Tray};
 use crate::lean::{beside, half_to, NAN, NEGATIVE_NAN};
@@ -34,6 +34,8 @@ pub fn stored(out: impl Write) -> io::Result<String> {
         outside_range(),
         over_cap(),
         random_cases(),
+        gate_rows(),
+        fractions(),
     ];
     for case in parts.iter().flatten() {
         writer.put(case)?;
@@ -122,17 +124,21 @@ fn found_trays() -> Vec<Case> {
     cases
 }
 
+/// The two ends of TooRare, by bits: its last p and the next, 2^-54 and its first p.
+const RARE_ENDS: [u64; 4] = [
+    0x3df6_2e42_bfff_ffff,
+    0x3df6_2e42_c000_0000,
+    0x3c90_0000_0000_0000,
+    0x3c90_0000_0000_0001,
+];
+
 /// Probabilities in which another order of multiplication shows, and the two ends of TooRare.
 fn found_rates() -> Vec<Case> {
     let mut cases = vec![
         geometric(0.03103289008140564, &[TOP, 7, 0xcd4e_86cc_7f73_b000, 0, 0]),
         geometric(0.07371161878108978, &[TOP, 7, 0x95c8_884e_8bdd_9800, 0, 0]),
     ];
-    let ends = [0x3df6_2e42_bfff_ffff, 0x3df6_2e42_c000_0000];
-    for bits in ends
-        .into_iter()
-        .chain([0x3c90_0000_0000_0000, 0x3c90_0000_0000_0001])
-    {
+    for bits in RARE_ENDS {
         cases.push(geometric(f64::from_bits(bits), &[]));
         cases.push(geometric(f64::from_bits(bits), &[HALF, 1, HALF]));
     }
@@ -224,4 +230,67 @@ fn random_cases() -> Vec<Case> {
         }
     }
     cases
+}
+
+/// Single draws that every gate looks at: each refusal of the parameters and which of two wins, tapes
+/// that end, and one tray over a low and a high word, set up for each and kept for both.
+fn gate_rows() -> Vec<Case> {
+    let mut cases = Vec::new();
+    for threshold in [thresholds::LEAST, 1.0, 1.5, NAN] {
+        cases.push(poisson(threshold, &[THREE_QUARTERS; 3]));
+    }
+    cases.extend([1.0, 1.5, NAN].map(|p| geometric(p, &[TOP, 0])));
+    cases.push(geometric(0.5, &[HALF, 1, HALF, 0]));
+    cases.extend([half_to(31), half_to(32)].map(|p| geometric(p, &[TOP, 5, 0])));
+    cases.extend(RARE_ENDS.map(|bits| geometric(f64::from_bits(bits), &[TOP, 5, 0])));
+    let tapes: [&[u64]; 3] = [&[0, HALF, 1], &[1], &[0]];
+    cases.extend(tapes.map(standard));
+    let refused = [
+        [98, 39, 24],
+        [5, 6, 6],
+        [5, 5, 6],
+        [CAP + 1, CAP + 2, 1],
+        [CAP + 1, 1, 1],
+        [CAP, 51, 51],
+        [CAP, 3_000, 3_000],
+    ];
+    cases.extend(refused.map(|parameters| tray(parameters, &[0])));
+    let words = [0x1000_0000_0000_0000, 0xf000_0000_0000_0000];
+    cases.extend(words.map(|word| tray([60, 24, 7], &[word])));
+    cases.push(trays::kept_over(&Tray::new([60, 24, 7]), &words));
+    cases
+}
+
+/// Words, and the bits of the fraction that a published rand gave for each: 0.8.5, by
+/// `gen::<f64>()`, as fraction.rs asks it.
+const FRACTIONS: [[u64; 2]; 16] = [
+    [0x0000_0000_0000_0000, 0x0000_0000_0000_0000],
+    [0x0000_0000_0000_0001, 0x0000_0000_0000_0000],
+    [0x0000_0000_0000_07ff, 0x0000_0000_0000_0000],
+    [0x0000_0000_0000_0800, 0x3ca0_0000_0000_0000],
+    [0x0000_0000_0000_0801, 0x3ca0_0000_0000_0000],
+    [0x0000_0000_0000_0fff, 0x3ca0_0000_0000_0000],
+    [0x0000_0000_0000_1000, 0x3cb0_0000_0000_0000],
+    [0x8000_0000_0000_0000, 0x3fe0_0000_0000_0000],
+    [0x8000_0000_0000_0800, 0x3fe0_0000_0000_0001],
+    [0x7fff_ffff_ffff_ffff, 0x3fdf_ffff_ffff_fffe],
+    [0x1234_5678_9abc_def0, 0x3fb2_3456_789a_bcd8],
+    [0xc000_0000_0000_0000, 0x3fe8_0000_0000_0000],
+    [0xcd4e_86cc_7f73_b000, 0x3fe9_a9d0_d98f_ee76],
+    [0xffff_ffff_ffff_f7ff, 0x3fef_ffff_ffff_fffe],
+    [0xffff_ffff_ffff_f800, 0x3fef_ffff_ffff_ffff],
+    [0xffff_ffff_ffff_ffff, 0x3fef_ffff_ffff_ffff],
+];
+
+/// The recorded fractions.
+fn fractions() -> Vec<Case> {
+    let case = |[word, bits]: [u64; 2]| Case {
+        kind: Kind::Fraction,
+        parameters: [word, bits, 0],
+        act: Act::Drew,
+        count: 0,
+        used: 0,
+        tape: Vec::new(),
+    };
+    FRACTIONS.map(case).into()
 }

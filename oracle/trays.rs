@@ -26,17 +26,23 @@ pub fn kept_case(chance: &mut Chance, parameters: [u64; 3], pairs: u64) -> Case 
     let tray = Tray::new(parameters);
     let mut words = TrayWords::new(&tray);
     let is_drawn_from = tray.act() == Act::Drew && parameters[0] <= CAP;
-    let tape = (0..if is_drawn_from { pairs } else { 0 })
-        .map(|_| words.next(chance))
-        .flat_map(|word| [word, tray.count(word)])
-        .collect();
+    let drawn = if is_drawn_from { pairs } else { 0 };
+    let words: Vec<u64> = (0..drawn).map(|_| words.next(chance)).collect();
+    kept_over(&tray, &words)
+}
+
+/// The case of a draw from a tray that is set up once over each of these words.
+pub fn kept_over(tray: &Tray, words: &[u64]) -> Case {
     Case {
         kind: Kind::Kept,
-        parameters,
+        parameters: tray.parameters(),
         act: tray.act(),
         count: 0,
         used: 0,
-        tape,
+        tape: words
+            .iter()
+            .flat_map(|&word| [word, tray.count(word)])
+            .collect(),
     }
 }
 

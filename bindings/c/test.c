@@ -123,16 +123,16 @@ static void standard(void) {
 
 /* ---- the book */
 
-/* Seven words: one, three, two and one of them are for serials 1 to 4, none is left. */
-static const uint64_t tape[] = {0, THREE_QUARTERS, THREE_QUARTERS, THREE_QUARTERS, LAST, 0, 1};
-enum { WORDS = 7, ROOM = 48 + 32 + 32 + 24 };
+/* Of the first seven words one, three, two and one are for serials 1 to 4, none is left; the eighth is for one more. */
+static const uint64_t tape[] = {0, THREE_QUARTERS, THREE_QUARTERS, THREE_QUARTERS, LAST, 0, 1, 1};
+enum { WORDS = 7, ROOM = 48 + 32 + 32 + 48 };
 
-/* One of each kind, which fill a book of ROOM bytes. */
+/* Trays, a Poisson and a geometric pull, which fill a book of ROOM bytes. */
 static void fill(void) {
     expect("serial 1", banlothek_deliver_hypergeometric(tape, WORDS, book, ROOM, 1, 50, 35, 10), 0, 1, 10);
     expect("serial 2", banlothek_deliver_poisson(tape, WORDS, book, ROOM, 2, HALF), 0, 3, 2);
     expect("serial 3", banlothek_deliver_geometric(tape, WORDS, book, ROOM, 3, P_75), 0, 2, 1);
-    expect("serial 4", banlothek_deliver_standard_geometric(tape, WORDS, book, ROOM, 4), 0, 1, 63);
+    expect("serial 4", banlothek_deliver_hypergeometric(tape, WORDS, book, ROOM, 4, 10, 8, 7), 0, 1, 5);
 }
 
 /* A true copy, in a full book and at the tape's end; then the same serials for other requests. */
@@ -141,33 +141,44 @@ static void copies(void) {
     expect("a copy of 1", banlothek_deliver_hypergeometric(tape, WORDS, book, ROOM, 1, 50, 35, 10), 1, 1, 10);
     expect("a copy of 2", banlothek_deliver_poisson(tape, WORDS, book, ROOM, 2, HALF), 1, 3, 2);
     expect("a copy of 3", banlothek_deliver_geometric(tape, WORDS, book, ROOM, 3, P_75), 1, 2, 1);
-    expect("a copy of 4", banlothek_deliver_standard_geometric(tape, WORDS, book, ROOM, 4), 1, 1, 63);
+    expect("a copy of 4", banlothek_deliver_hypergeometric(tape, WORDS, book, ROOM, 4, 10, 8, 7), 1, 1, 5);
     same("copies change nothing", kept, book, sizeof book);
     refused_and_kept("1 with n and K exchanged", banlothek_deliver_hypergeometric(tape, WORDS, book, ROOM, 1, 50, 10, 35),
                      BANLOTHEK_SERIAL_REUSED);
     refused_and_kept("2 of another kind", banlothek_deliver_geometric(tape, WORDS, book, ROOM, 2, HALF), BANLOTHEK_SERIAL_REUSED);
     refused_and_kept("3 of another p", banlothek_deliver_geometric(tape, WORDS, book, ROOM, 3, ONE), BANLOTHEK_SERIAL_REUSED);
     refused_and_kept("4 of another kind", banlothek_deliver_poisson(tape, WORDS, book, ROOM, 4, HALF), BANLOTHEK_SERIAL_REUSED);
-    refused_and_kept("1 as standard", banlothek_deliver_standard_geometric(tape, WORDS, book, ROOM, 1), BANLOTHEK_SERIAL_REUSED);
 }
 
 static void ahead_and_full(void) {
     refused_and_kept("serial 0", banlothek_deliver_hypergeometric(tape, WORDS, book, ROOM, 0, 50, 35, 10), BANLOTHEK_SERIAL_AHEAD);
     refused_and_kept("serial 6", banlothek_deliver_poisson(tape, WORDS, book, ROOM, 6, HALF), BANLOTHEK_SERIAL_AHEAD);
     refused_and_kept("serial 7", banlothek_deliver_geometric(tape, WORDS, book, ROOM, 7, HALF), BANLOTHEK_SERIAL_AHEAD);
-    refused_and_kept("serial 2^32-1", banlothek_deliver_standard_geometric(tape, WORDS, book, ROOM, 0xffffffff), BANLOTHEK_SERIAL_AHEAD);
+    refused_and_kept("serial 2^32-1", banlothek_deliver_geometric(tape, WORDS, book, ROOM, 0xffffffff, HALF), BANLOTHEK_SERIAL_AHEAD);
     refused_and_kept("parameters before the room", banlothek_deliver_geometric(tape, WORDS, book, ROOM, 5, NAN_BITS),
                      BANLOTHEK_INVALID_PROBABILITY);
     refused_and_kept("full: hypergeometric", banlothek_deliver_hypergeometric(tape, WORDS, book, ROOM + 47, 5, 50, 35, 10),
                      BANLOTHEK_BOOK_FULL);
     refused_and_kept("full: Poisson", banlothek_deliver_poisson(tape, WORDS, book, ROOM + 31, 5, HALF), BANLOTHEK_BOOK_FULL);
     refused_and_kept("full: geometric", banlothek_deliver_geometric(tape, WORDS, book, ROOM + 31, 5, HALF), BANLOTHEK_BOOK_FULL);
-    refused_and_kept("full: standard", banlothek_deliver_standard_geometric(tape, WORDS, book, ROOM + 23, 5), BANLOTHEK_BOOK_FULL);
-    refused_and_kept("no word left", banlothek_deliver_standard_geometric(tape, WORDS, book, ROOM + 24, 5), BANLOTHEK_EXHAUSTED);
     refused_and_kept("no word left: Poisson", banlothek_deliver_poisson(tape, WORDS, book, ROOM + 32, 5, HALF), BANLOTHEK_EXHAUSTED);
     refused_and_kept("no word left: geometric", banlothek_deliver_geometric(tape, WORDS, book, ROOM + 32, 5, HALF), BANLOTHEK_EXHAUSTED);
     refused_and_kept("no word left: a tray", banlothek_deliver_hypergeometric(tape, WORDS, book, ROOM + 48, 5, 50, 35, 10),
                      BANLOTHEK_EXHAUSTED);
+}
+
+/* The standard geometric pull over the full book, and with room for one. */
+static void standard_delivered(void) {
+    refused_and_kept("1 as standard", banlothek_deliver_standard_geometric(tape, WORDS, book, ROOM, 1), BANLOTHEK_SERIAL_REUSED);
+    refused_and_kept("standard ahead", banlothek_deliver_standard_geometric(tape, WORDS, book, ROOM, 6), BANLOTHEK_SERIAL_AHEAD);
+    refused_and_kept("full: standard", banlothek_deliver_standard_geometric(tape, WORDS, book, ROOM + 23, 5), BANLOTHEK_BOOK_FULL);
+    refused_and_kept("no word left: standard", banlothek_deliver_standard_geometric(tape, WORDS, book, ROOM + 24, 5), BANLOTHEK_EXHAUSTED);
+    expect("standard", banlothek_deliver_standard_geometric(tape, WORDS + 1, book, ROOM + 24, 5), 0, 1, 63);
+    expect("its copy", banlothek_deliver_standard_geometric(tape, WORDS + 1, book, ROOM + 24, 5), 1, 1, 63);
+    refused("5 of another kind", banlothek_deliver_poisson(tape, WORDS + 1, book, ROOM + 24, 5, HALF), BANLOTHEK_SERIAL_REUSED, 0);
+    expect("drawn again", banlothek_redraw(tape, WORDS + 1, book, ROOM + 24), 0, 0, 5);
+    expect("struck", banlothek_strike(tape, WORDS + 1, book, ROOM + 24, 1), 0, 0, 4);
+    same("the book is what it was before", kept, book, sizeof book);
 }
 
 static void parameters(void) {
@@ -210,9 +221,9 @@ static void redraw_and_strike(void) {
     expect("a strike of 2", banlothek_strike(tape, WORDS, book, ROOM, 2), 0, 0, 2);
     same("a strike changes no other byte", kept, book, 80);
     same("a strike zeroes its entries", zeros, book + 80, ROOM - 80);
-    refused("serial 4 is ahead", banlothek_deliver_standard_geometric(tape, WORDS, book, ROOM, 4), BANLOTHEK_SERIAL_AHEAD, 0);
+    refused("serial 4 is ahead", banlothek_deliver_hypergeometric(tape, WORDS, book, ROOM, 4, 10, 8, 7), BANLOTHEK_SERIAL_AHEAD, 0);
     expect("3 is fresh again", banlothek_deliver_geometric(tape, WORDS, book, ROOM, 3, P_75), 0, 2, 1);
-    expect("4 is fresh again", banlothek_deliver_standard_geometric(tape, WORDS, book, ROOM, 4), 0, 1, 63);
+    expect("4 is fresh again", banlothek_deliver_hypergeometric(tape, WORDS, book, ROOM, 4, 10, 8, 7), 0, 1, 5);
     same("the book is what it was", kept, book, sizeof book);
     expect("a strike of all", banlothek_strike(tape, WORDS, book, ROOM, 4), 0, 0, 0);
     same("an empty book is all zeros", zeros, book, ROOM);
@@ -226,7 +237,7 @@ static void worked(void) {
     memset(book, 0, sizeof book);
     expect("the worked draw", banlothek_deliver_standard_geometric(one, 1, book, 24, 1), 0, 1, 63);
     same("the worked book", bytes, book, 24);
-    refused("a book of no byte is full", banlothek_deliver_standard_geometric(one, 1, book, 0, 1), BANLOTHEK_BOOK_FULL, 0);
+    refused("a book of no byte is full", banlothek_deliver_geometric(one, 1, book, 0, 1, P_75), BANLOTHEK_BOOK_FULL, 0);
 }
 
 int main(void) {
@@ -237,6 +248,7 @@ int main(void) {
     fill();
     copies();
     ahead_and_full();
+    standard_delivered();
     parameters();
     limits("a tape of 1,048,577 words", long_tape, TOO_MANY_WORDS, ROOM, BANLOTHEK_TAPE_TOO_LONG);
     limits("a book of 65,537 bytes", tape, WORDS, MOST_BYTES + 1, BANLOTHEK_BOOK_TOO_LONG);

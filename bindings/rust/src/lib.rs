@@ -77,8 +77,8 @@ pub enum Request {
 /// ```
 /// use banlothek::{draw, Drawn, Request};
 ///
-/// let Drawn { count, used } = draw(&[0, 1 << 63], Request::StandardGeometric)?;
-/// assert_eq!((count, used), (64, 2));
+/// let Drawn { count, used } = draw(&[u64::MAX, 0], Request::Geometric { p: 0.75 })?;
+/// assert_eq!((count, used), (1, 2));
 /// # Ok::<(), banlothek::Refusal>(())
 /// ```
 #[derive(Clone, Copy, Debug, PartialEq, Eq, Hash)]
@@ -94,9 +94,9 @@ pub struct Drawn {
 /// ```
 /// use banlothek::{deliver, Booked, Request};
 ///
-/// let mut book = [0; 24];
-/// let booked = deliver(&[1], &mut book, 1, Request::StandardGeometric)?;
-/// assert_eq!(booked, Booked { count: 63, used: 1, copied: false });
+/// let mut book = [0; 32];
+/// let booked = deliver(&[3 << 62; 3], &mut book, 1, Request::Poisson { threshold: 0.5 })?;
+/// assert_eq!(booked, Booked { count: 2, used: 3, copied: false });
 /// # Ok::<(), banlothek::Refusal>(())
 /// ```
 #[derive(Clone, Copy, Debug, PartialEq, Eq, Hash)]
@@ -315,7 +315,7 @@ pub fn draw(tape: &[u64], request: Request) -> Result<Drawn, Refusal> {
 /// // A copy is answered, though the book is full; the serial for another request is not.
 /// let copied = Booked { copied: true, ..booked };
 /// assert_eq!(deliver(&[u64::MAX, 0], &mut book, 1, request), Ok(copied));
-/// let other = deliver(&[u64::MAX, 0], &mut book, 1, Request::StandardGeometric);
+/// let other = deliver(&[u64::MAX, 0], &mut book, 1, Request::Geometric { p: 0.7 });
 /// assert_eq!(other, Err(Refusal::SerialReused));
 /// ```
 pub fn deliver(
@@ -364,11 +364,11 @@ pub fn deliver(
 /// ```
 /// use banlothek::{deliver, strike, Refusal, Request};
 ///
-/// let mut book = [0; 24];
-/// deliver(&[1], &mut book, 1, Request::StandardGeometric)?;
+/// let mut book = [0; 32];
+/// deliver(&[1], &mut book, 1, Request::Geometric { p: 0.75 })?;
 /// assert_eq!(strike(&[1], &mut book, 2), Err(Refusal::StrikeTooMany));
 /// assert_eq!(strike(&[1], &mut book, 1), Ok(0));
-/// assert_eq!(book, [0; 24]);
+/// assert_eq!(book, [0; 32]);
 /// # Ok::<(), Refusal>(())
 /// ```
 pub fn strike(tape: &[u64], book: &mut [u8], j: u64) -> Result<u64, Refusal> {
@@ -393,11 +393,12 @@ pub fn strike(tape: &[u64], book: &mut [u8], j: u64) -> Result<u64, Refusal> {
 /// ```
 /// use banlothek::{deliver, redraw, Refusal, Request};
 ///
-/// let mut book = [0; 24];
-/// deliver(&[1], &mut book, 1, Request::StandardGeometric)?;
-/// assert_eq!(redraw(&[1], &book), Ok(1));
+/// let mut book = [0; 48];
+/// let tray = Request::Hypergeometric { total: 60, marked: 24, sample: 7 };
+/// deliver(&[9 << 60], &mut book, 1, tray)?;
+/// assert_eq!(redraw(&[9 << 60], &book), Ok(1));
 /// // Over another tape the entry differs.
-/// assert_eq!(redraw(&[2], &book), Err(Refusal::RedrawDiffers { serial: 1 }));
+/// assert_eq!(redraw(&[1 << 62], &book), Err(Refusal::RedrawDiffers { serial: 1 }));
 /// # Ok::<(), Refusal>(())
 /// ```
 pub fn redraw(tape: &[u64], book: &[u8]) -> Result<u64, Refusal> {

@@ -152,7 +152,7 @@ fn a_tape_too_long_comes_first() {
     ] {
         assert_eq!(draw(&tape, request), Err(TapeTooLong));
     }
-    assert_eq!(draw(&tape[1..], StandardGeometric), drawn(0, 1));
+    assert_eq!(draw(&tape[1..], tray(9, 3, 4)), drawn(3, 1));
 }
 
 // ---- the book
@@ -168,19 +168,16 @@ const TAPE: [u64; 7] = [
     1,
 ];
 
-/// The bytes of four entries, one of each kind.
-const ROOM: usize = 48 + 32 + 32 + 24;
+/// The bytes of four entries: a tray, a Poisson and a geometric pull, and another tray.
+const ROOM: usize = 48 + 32 + 32 + 48;
 
-/// A book of some bytes, into which one of each kind was delivered.
+/// A book of some bytes, into which the four were delivered.
 fn filled(bytes: usize) -> Vec<u8> {
     let mut book = vec![0; bytes];
     assert_eq!(deliver(&TAPE, &mut book, 1, tray(50, 35, 10)), fresh(10, 1));
     assert_eq!(deliver(&TAPE, &mut book, 2, poisson(0.5)), fresh(2, 3));
     assert_eq!(deliver(&TAPE, &mut book, 3, geometric(0.75)), fresh(1, 2));
-    assert_eq!(
-        deliver(&TAPE, &mut book, 4, StandardGeometric),
-        fresh(63, 1)
-    );
+    assert_eq!(deliver(&TAPE, &mut book, 4, tray(10, 8, 7)), fresh(5, 1));
     book
 }
 
@@ -199,7 +196,7 @@ fn copies_get_what_was_booked() {
     assert_eq!(deliver(&TAPE, &mut book, 1, tray(50, 35, 10)), copy(10, 1));
     assert_eq!(deliver(&TAPE, &mut book, 2, poisson(0.5)), copy(2, 3));
     assert_eq!(deliver(&TAPE, &mut book, 3, geometric(0.75)), copy(1, 2));
-    assert_eq!(deliver(&TAPE, &mut book, 4, StandardGeometric), copy(63, 1));
+    assert_eq!(deliver(&TAPE, &mut book, 4, tray(10, 8, 7)), copy(5, 1));
     assert_eq!(book, kept);
 }
 
@@ -208,7 +205,6 @@ fn a_serial_is_for_one_request() {
     let mut book = filled(ROOM);
     for (serial, request) in [
         (1, tray(50, 10, 35)),
-        (1, StandardGeometric),
         (2, geometric(0.5)),
         (3, geometric(1.0)),
         (3, geometric(f64::NAN)),
@@ -234,7 +230,7 @@ fn serials_ahead() {
         (0, tray(50, 35, 10)),
         (6, poisson(0.5)),
         (7, geometric(0.5)),
-        (u32::MAX, StandardGeometric),
+        (u32::MAX, geometric(0.5)),
     ] {
         assert_eq!(refused(&TAPE, &mut book, serial, request), SerialAhead);
     }
@@ -247,14 +243,38 @@ fn a_full_book_and_a_tape_at_its_end() {
         (48, tray(50, 35, 10)),
         (32, poisson(0.5)),
         (32, geometric(0.5)),
-        (24, StandardGeometric),
     ] {
         let mut book = filled(ROOM + length);
         let short = &mut book[..ROOM + length - 1];
         assert_eq!(refused(&TAPE, short, 5, request), BookFull);
         assert_eq!(refused(&TAPE, &mut book, 5, request), Exhausted);
     }
-    assert_eq!(refused(&[1], &mut [], 1, StandardGeometric), BookFull);
+    assert_eq!(refused(&[1], &mut [], 1, geometric(0.75)), BookFull);
+}
+
+/// The standard geometric pull over the four, a byte of room or a word too few, and its copy.
+#[test]
+fn standard_geometric_deliveries() {
+    let tape = [&TAPE[..], &[1]].concat();
+    let mut book = filled(ROOM + 24);
+    assert_eq!(
+        refused(&TAPE, &mut book, 1, StandardGeometric),
+        SerialReused
+    );
+    assert_eq!(refused(&TAPE, &mut book, 6, StandardGeometric), SerialAhead);
+    let short = &mut book[..ROOM + 23];
+    assert_eq!(refused(&TAPE, short, 5, StandardGeometric), BookFull);
+    assert_eq!(refused(&TAPE, &mut book, 5, StandardGeometric), Exhausted);
+
+    assert_eq!(
+        deliver(&tape, &mut book, 5, StandardGeometric),
+        fresh(63, 1)
+    );
+    assert_eq!(deliver(&tape, &mut book, 5, StandardGeometric), copy(63, 1));
+    assert_eq!(refused(&tape, &mut book, 5, poisson(0.5)), SerialReused);
+    assert_eq!(redraw(&tape, &book), Ok(5));
+    assert_eq!(strike(&tape, &mut book, 1), Ok(4));
+    assert_eq!(book, filled(ROOM + 24));
 }
 
 #[test]
@@ -325,13 +345,10 @@ fn struck_and_fresh_again() {
     assert_eq!(strike(&TAPE, &mut book, 2), Ok(2));
     assert_eq!(book[..80], kept[..80]);
     assert_eq!(book[80..], [0; ROOM - 80]);
-    assert_eq!(refused(&TAPE, &mut book, 4, StandardGeometric), SerialAhead);
+    assert_eq!(refused(&TAPE, &mut book, 4, tray(10, 8, 7)), SerialAhead);
 
     assert_eq!(deliver(&TAPE, &mut book, 3, geometric(0.75)), fresh(1, 2));
-    assert_eq!(
-        deliver(&TAPE, &mut book, 4, StandardGeometric),
-        fresh(63, 1)
-    );
+    assert_eq!(deliver(&TAPE, &mut book, 4, tray(10, 8, 7)), fresh(5, 1));
     assert_eq!(book, kept);
 
     assert_eq!(strike(&TAPE, &mut book, 4), Ok(0));

@@ -1,7 +1,6 @@
 -- What a caller in C reads off `refusal`: it is 0 exactly where the call is accepted, since no refusal has the number 0. Assumes nothing.
 use mathlib.Core.Path.{_≡_, refl}
 use mathlib.Core.Logic.{_↔_}
-use Prim.Native.Nat.{ℕ}
 use native.Mathlib.Omega.{arith}
 use Rattle.words.specs.declared.Answer.{Answer}
 use Rattle.words.specs.declared.Answer.the-variants.{Drawn, Refused}
@@ -13,11 +12,11 @@ use Rattle.book.specs.declared.Delivered.{Delivered}
 use Rattle.book.specs.declared.Delivered.the-variants as of-delivered
 use Rattle.book.specs.declared.Struck.{Struck}
 use Rattle.book.specs.declared.Struck.the-variants as of-struck
-use Rattle.book.specs.declared.Redrawn.{Redrawn}
-use Rattle.book.specs.declared.Redrawn.the-variants as of-redrawn
-use Rattle.book.specs.Deliver.{Booking, delivered}
+use Rattle.redraws.specs.declared.Redrawn.{Redrawn}
+use Rattle.redraws.specs.declared.Redrawn.the-variants as of-redrawn
+use Rattle.book.specs.Deliver.{delivered}
 use Rattle.book.specs.Strike.{struck}
-use Rattle.book.specs.Redraw.{redrawn}
+use Rattle.redraws.specs.Redraw.{redrawn}
 use Rattle.banlothek.specs.Face.{plain, ofDelivery, ofRedraw}
 
 no-zero : (x : Refusal) → numberOf x ≡ 0 → ⊥
@@ -45,12 +44,12 @@ Accepted (drawn a u) = Unit
 Accepted (refused n) = ⊥
 
 pub draw-accepted : (a : Answer) → (plain (paper a) .refusal ≡ 0) ↔ Accepted (paper a)
-draw-accepted (Drawn c u) = ((λ e. tt), (λ t. refl))
+draw-accepted (Drawn d) = ((λ e. tt), (λ t. refl))
 draw-accepted (Refused x) = (no-zero x, (λ t. absurd t))
 
 pub delivery-accepted : (a : Delivered) → (ofDelivery (delivered a) .refusal ≡ 0) ↔ Accepted (delivered a)
-delivery-accepted (of-delivered.Fresh c u) = ((λ e. tt), (λ t. refl))
-delivery-accepted (of-delivered.Copy c u) = ((λ e. tt), (λ t. refl))
+delivery-accepted (of-delivered.Fresh d) = ((λ e. tt), (λ t. refl))
+delivery-accepted (of-delivered.Copy d) = ((λ e. tt), (λ t. refl))
 delivery-accepted (of-delivered.Refused x) = (no-zero x, (λ t. absurd t))
 
 pub strike-accepted : (a : Struck) → (plain (struck a) .refusal ≡ 0) ↔ Accepted (struck a)

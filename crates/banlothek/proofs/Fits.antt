@@ -16,14 +16,15 @@ use Rattle.kinds.specs.declared.Request.{Request}
 use Rattle.kinds.specs.Kinds.{numbered, kindOf, parametersOf}
 use Rattle.draws.specs.Request.{readingOf, drawOf}
 use Rattle.draws.proofs.Laws.{request-within, request-used}
-use Rattle.layout.specs.Entry.{Entry}
+use Rattle.entry.specs.declared.Entry.{Entry}
 use Rattle.layout.specs.Book.{usedAll, decode}
-use Rattle.layout.proofs.Entries.{Fits}
+use Rattle.entry.proofs.Entries.{Fits}
 use Rattle.layout.proofs.Decoding.{by-test, Chain, written}
-use Rattle.book.specs.Calls.{booked}
-use Rattle.book.specs.Deliver.{Booking, blank, isNext, bookedAt, deliverRefusals, freshly, delivery, deliverTo, deliver}
-use Rattle.book.specs.Redraw.{redrawOf, redraw}
-use Rattle.book.proofs.Redrawing.{lowest-first}
+use Rattle.opening.specs.Calls.{booked}
+use Rattle.book.specs.Deliver.{Booking, isNext, bookedAt, deliverRefusals, freshly, delivery, deliverTo, deliver}
+use Rattle.entry.specs.Entry.{blank}
+use Rattle.redraws.specs.Redraw.{redrawOf, redraw}
+use Rattle.redraws.proofs.Redrawing.{lowest-first}
 
 -- what a request's draw comes to uses no more words than a tape may have
 pub draw-fits : (r : Request) (ws : List ℕ) (o : Outcome ℕ) → o ≡ drawOf r ws → usedOf o < 2 ^ 32

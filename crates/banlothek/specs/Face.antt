@@ -4,9 +4,9 @@ use mathlib.Core.Path.{_≡_}
 use mathlib.Core.List.{List}
 use mathlib.Core.Option.{Option·getD}
 use Rattle.words.specs.Outcome.{Outcome, drawn, refused}
-use Rattle.book.specs.Calls.{Call}
+use Rattle.opening.specs.Calls.{Call}
 use Rattle.book.specs.Deliver.{Booking, fresh, copy}
-use Rattle.book.specs.Redraw.{Redrawing}
+use Rattle.redraws.specs.Redraw.{Redrawing}
 use Rattle.banlothek.specs.declared.BanlothekAnswer.{BanlothekAnswer}
 
 -- a call that is accepted: refusal 0, and no serial

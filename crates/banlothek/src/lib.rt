@@ -1,10 +1,11 @@
 // The face for C: each draw and each call on a book as a function that C can call, with one struct for every answer. include/banlothek.h
 // declares them, and says what a caller in C owes.
 use book::Delivered;
-use book::Redrawn;
 use book::Struck;
 use kinds::Request;
+use redraws::Redrawn;
 use words::Answer;
+use words::Draw;
 use words::Refusal;
 use words::number;
 ghost use mathlib.Core.Path.{_≡_};
@@ -15,7 +16,7 @@ ghost use Rattle.kinds.specs.declared.Request.the-variants.{Hypergeometric, Poi
 ghost use Rattle.draws.specs.Request.{drawOf};
 ghost use Rattle.book.specs.Deliver as deliveries;
 ghost use Rattle.book.specs.Strike as strikes;
-ghost use Rattle.book.specs.Redraw as redraws;
+ghost use Rattle.redraws.specs.Redraw as redraws;
 ghost use Rattle.banlothek.specs.Face.{Meets, accepted, refusedBy, plain, ofDelivery, ofRedraw};
 
 // What every function answers. The header's `banlothek_answer` has these fields in this order.
@@ -30,16 +31,31 @@ pub struct BanlothekAnswer {
 
 // ---- the struct
 
-fn accept(copied: u32, used: usize, count: u64) -> BanlothekAnswer
-    requires { ⌜ used < 2 ^ 32 ⌝ }
-    ensures { λ r. ⌜ r ≡ accepted copied used count ⌝ }
+// What was drawn, and whether it is a copy.
+fn accept(copied: u32, draw: Draw) -> BanlothekAnswer
+    requires { ⌜ draw .used < 2 ^ 32 ⌝ }
+    ensures { λ r. ⌜ r ≡ accepted copied (draw .used) (draw .count) ⌝ }
 {
+    let used = draw.used as u32;
     BanlothekAnswer {
         refusal: 0,
         copied,
         serial: 0,
-        used: used as u32,
-        count,
+        used,
+        count: draw.count,
+    }
+}
+
+// The entries that are left, or that agree: no word is used.
+fn count_entries(entries: u64) -> BanlothekAnswer
+    ensures { λ r. ⌜ r ≡ accepted 0 0 entries ⌝ }
+{
+    BanlothekAnswer {
+        refusal: 0,
+        copied: 0,
+        serial: 0,
+        used: 0,
+        count: entries,
     }
 }
 
@@ -63,7 +79,7 @@ fn told(answer: Answer) -> BanlothekAnswer
     ensures { λ r. ⌜ r ≡ plain (paper answer) ⌝ }
 {
     match answer {
-        Answer::Drawn { count, used } => accept(0, used, count),
+        Answer::Drawn(draw) => accept(0, draw),
         Answer::Refused(refusal) => refuse(refusal, 0),
     }
 }
@@ -98,7 +114,7 @@ pub extern "C" fn banlothek_draw_geometric(tape: &[u64], p_bits: u64) -> Banloth
 pub extern "C" fn banlothek_draw_standard_geometric(tape: &[u64]) -> BanlothekAnswer
     ensures { λ r. ⌜ r ≡ plain (drawOf StandardGeometric (now (tape .entry))) ⌝ }
 {
-    told(geometric::sample_standard(tape))
+    told(standard_geometric::sample(tape))
 }
 
 // ---- the book
@@ -117,8 +133,8 @@ fn deliver(tape: &[u64], book: &mut [u8], serial: u32, request: Request) -> Banl
     ensures { λ r. ⌜ Meets ofDelivery (deliveries.deliver (now (tape .entry)) (now (book .entry)) serial request) r (now (book .exit)) ⌝ }
 {
     match book::deliver(tape, book, serial, request) {
-        Delivered::Fresh { count, used } => accept(0, used, count),
-        Delivered::Copy { count, used } => accept(1, used, count),
+        Delivered::Fresh(draw) => accept(0, draw),
+        Delivered::Copy(draw) => accept(1, draw),
         Delivered::Refused(refusal) => refuse(refusal, 0),
     }
 }
@@ -180,7 +196,7 @@ pub extern "C" fn banlothek_strike(tape: &[u64], book: &mut [u8], j: u64) -> Ban
     ensures { λ r. ⌜ Meets plain (strikes.strike (now (tape .entry)) (now (book .entry)) j) r (now (book .exit)) ⌝ }
 {
     match book::strike(tape, book, j) {
-        Struck::Left { entries } => accept(0, 0, entries),
+        Struck::Left { entries } => count_entries(entries),
         Struck::Refused(refusal) => refuse(refusal, 0),
     }
 }
@@ -189,8 +205,8 @@ pub extern "C" fn banlothek_strike(tape: &[u64], book: &mut [u8], j: u64) -> Ban
 pub extern "C" fn banlothek_redraw(tape: &[u64], book: &[u8]) -> BanlothekAnswer
     ensures { λ r. ⌜ r ≡ ofRedraw (redraws.redraw (now (tape .entry)) (now (book .entry))) ⌝ }
 {
-    match book::redraw(tape, book) {
-        Redrawn::Agrees { entries } => accept(0, 0, entries),
+    match redraws::redraw(tape, book) {
+        Redrawn::Agrees { entries } => count_entries(entries),
         Redrawn::Differs { serial } => refuse(Refusal::RedrawDiffers, serial as u32),
         Redrawn::Refused(refusal) => refuse(refusal, 0),
     }

@@ -8,17 +8,21 @@ use native.Mathlib.Omega.{arith}
 use lib.ListN.{length, drop}
 use borrow.Author.Tests.{lt-ltb, le-ltb, eq-eqb, ne-eqb}
 use Rattle.words.specs.Outcome.{Outcome, drawn, refused}
+use Rattle.words.specs.declared.Draw.{Draw}
+use Rattle.words.specs.Paper.{drew}
 use Rattle.words.specs.Refusals.{Condition, _on_, given, First, NoneHolds}
 use Rattle.words.proofs.Exactly.{none-given}
 use Rattle.bytes_le.proofs.Numbers.{Bytes}
 use Rattle.kinds.specs.declared.Request.{Request}
 use Rattle.kinds.specs.Kinds.{sameRequest}
-use Rattle.layout.specs.Entry.{Entry, usedAt, countAt, requestAt, entryAt}
+use Rattle.entry.specs.declared.Entry.{Entry}
+use Rattle.layout.specs.declared.Standing.{Standing}
+use Rattle.entry.specs.Entry.{entryAt}
 use Rattle.layout.specs.Sound.{offset}
-use Rattle.layout.proofs.Entries.{entry-is}
-use Rattle.book.specs.Calls.{Call, call, booked, limits, standing}
+use Rattle.opening.specs.Calls.{Call, call, booked, limits, IsOpen}
+use Rattle.layout.specs.Walk.{standing}
 use Rattle.book.specs.Deliver.{Booking, copy, isNext, isAhead, bookedAt, isReused, whenNext, freshRefusals, deliverRefusals, copied, delivery, delivering, deliverTo, deliver, freshDelivery}
-use Rattle.book.proofs.Opening.{past-limits, stopped, open-entry}
+use Rattle.opening.proofs.Opening.{past-limits, stopped, open-read}
 
 -- of a serial that is not next no condition of a fresh delivery holds: no copy is refused by them
 pub copy-unrefused : (cs : List Condition) → NoneHolds (whenNext false cs)
@@ -103,25 +107,30 @@ module _ (ws b : List ℕ) (s : ℕ) (r : Request) where
               next-asked news,
             )
 
--- ---- what the entry at a place answers
+-- ---- what an entry answers
 
--- by the request q that was read there, and whether it is the same as r
-module _ (b : List ℕ) (i : ℕ) (r q : Request) (asked : requestAt b i ≡ some q) (z : Bool) (ez : z ≡ sameRequest q r) (e : Entry) (here : entryAt b i ≡ some e) where
-  same-there : sameRequest (e .request) r ≡ z
-  same-there = ap (λ (x : Entry). sameRequest (x .request) r) (entry-is b i q asked e here) ∙ sym ez
-
-  pub copy-told : z ≡ true → (c u : ℕ) → c ≡ countAt b i → u ≡ usedAt b i
-      → drawn (copy c) u ≡ given (14 on not (sameRequest (e .request) r) ∷ []) (copied e)
-  copy-told y c u ec eu = rw (same-there, y) ((λ j. drawn (copy (ec j)) (eu j)) ∙ ap copied (sym (entry-is b i q asked e here)))
+-- by whether its request is the same as r
+module _ (e : Entry) (r : Request) (z : Bool) (ez : z ≡ sameRequest (e .request) r) where
+  pub copy-told : z ≡ true → (d : Draw) → d ≡ drew (e .count) (e .used)
+      → drawn (copy (d .count)) (d .used) ≡ given (14 on not (sameRequest (e .request) r) ∷ []) (copied e)
+  copy-told y d ed = rw (← ez, y) (ap (λ (x : Draw). drawn (copy (x .count)) (x .used)) ed)
 
   pub copy-refused : z ≡ false → refused 14 ≡ given (14 on not (sameRequest (e .request) r) ∷ []) (copied e)
-  copy-refused n = rw (same-there, n)
+  copy-refused n = rw (← ez, n)
 
--- the entry of the serial s, where it lies, gives a delivery's answer
+-- the entry of the serial s gives a delivery's answer
 pub copy-answers : (ws b : List ℕ) (s : ℕ) (r : Request) → Bytes b → NoneHolds (limits ws b) → (s ≡ 0 → ⊥) → s < length (booked ws b) + 1
-    → (i : ℕ) → i ≡ offset b (s - 1) → (o : Outcome Booking)
-    → ((e : Entry) → entryAt b i ≡ some e → o ≡ given (14 on not (sameRequest (e .request) r) ∷ []) (copied e))
-    → call o b ≡ deliver ws b s r
-copy-answers ws b s r by h nz l i ei o eo =
-    let there : entryAt b i ≡ some (bookedAt (booked ws b) s) = ap (entryAt b) ei ∙ open-entry ws b by h (s - 1) (omega (arith, nz)) in
-    ap (λ (x : Outcome Booking). call x b) (eo (bookedAt (booked ws b) s) there) ∙ deliver-copy ws b s r h nz l
+    → (i : ℕ) → i ≡ offset b (s - 1) → (e : Entry) → entryAt b i ≡ some e → (o : Outcome Booking)
+    → o ≡ given (14 on not (sameRequest (e .request) r) ∷ []) (copied e) → call o b ≡ deliver ws b s r
+copy-answers ws b s r by h nz l i ei e here o eo =
+    let is : e ≡ bookedAt (booked ws b) s = open-read ws b by h (s - 1) (omega (arith, nz)) i e ei here in
+    ap (λ (x : Outcome Booking). call x b) (eo ∙ ap (λ (x : Entry). given (14 on not (sameRequest (x .request) r) ∷ []) (copied x)) is)
+    ∙ deliver-copy ws b s r h nz l
+
+-- a serial that is next is answered by how the book stands
+pub fresh-answers : (ws b : List ℕ) (st : Standing) (s : ℕ) (r : Request) → IsOpen ws b st → s ≡ st .entries + 1
+    → (c : Call Booking) → c ≡ freshDelivery ws b st r → c ≡ deliver ws b s r
+fresh-answers ws b st s r o es c ec =
+    ec
+    ∙ ap (λ (x : Standing). freshDelivery ws b x r) (sym (o .1))
+    ∙ deliver-fresh ws b s r (o .0) (es ∙ ap (λ (x : Standing). x .entries + 1) (sym (o .1)))

@@ -3,12 +3,14 @@ use mathlib.Core.Path.{_≡_, refl, sym, ap, _∙_}
 use mathlib.Core.Bool.{Bool, true, false, cond, _&&_, true≢false}
 use mathlib.Core.List.{List, [], _∷_, _++_}
 use mathlib.Core.Logic.{_⊎_, inl, inr}
-use Prim.Native.Nat.{ℕ, _+_, _-_, _≤_}
+use Prim.Native.Nat.{ℕ, _+_, _≤_}
 use native.Mathlib.Omega.{arith}
-use lib.ListN.{length, take, drop, length-drop}
-use lib.Seq.{sets, take-all}
+use lib.ListN.{length, drop, length-drop}
+use lib.Seq.{sets}
 use Rattle.words.specs.Words.{mostWords, tooLong}
 use Rattle.words.specs.Outcome.{Outcome, drawn, refused}
+use Rattle.words.specs.declared.Draw.{Draw}
+use Rattle.words.specs.Paper.{told}
 use Rattle.words.specs.Refusals.{Condition, _on_, given, First, NoneHolds}
 use Rattle.words.specs.Draw.{shorts, isShort, endings}
 use Rattle.words.proofs.Tape.{limit-within}
@@ -16,10 +18,13 @@ use Rattle.words.proofs.Exactly.{first-given, first-before, given-append, none-
 use Rattle.words.proofs.Short.{none-ended, first-ended}
 use Rattle.words.proofs.Drawing.{accepted-passed, accepted-reading}
 use Rattle.kinds.specs.declared.Request.{Request}
+use Rattle.kinds.specs.Kinds.{lengthOf}
 use Rattle.draws.specs.Request.{drawing, parameterRefusals, readingOf, drawOf}
 use Rattle.draws.proofs.Laws.{request-exactly, request-parameter}
-use Rattle.layout.specs.Entry.{booking, entryBytes}
-use Rattle.book.specs.Calls.{call, stands}
+use Rattle.entry.specs.declared.Entry.{Entry}
+use Rattle.layout.specs.declared.Standing.{Standing}
+use Rattle.entry.specs.Entry.{booking, entryBytes}
+use Rattle.opening.specs.Calls.{call}
 use Rattle.book.specs.Deliver.{Booking, fresh, isFull, freshRefusals, freshly, delivering, freshDelivery}
 
 -- what holds first in two lists joined holds first in one of them
@@ -97,11 +102,6 @@ module _ (vs b : List ℕ) (end : ℕ) (r : Request) (short : length vs ≤ most
       go (inl h) = absurd (true≢false (sym (h .0) ∙ limit-within vs short))
       go (inr h) = last (first-split (parameterRefusals r) (endings shorts (readingOf r vs)) n (h .1))
 
--- ---- the tape from a place on, as it is lent
-
-pub lent-from : (ws : List ℕ) (p : ℕ) → take (length ws - p) (drop p ws) ≡ drop p ws
-lent-from ws p = take-all (length ws - p) (drop p ws) (omega (arith, length-drop p ws))
-
 -- ---- the refusal that the code gives
 
 -- by the number m of the refusal n, and whether it is short
@@ -117,26 +117,35 @@ module _ (full : Bool) (n m : ℕ) (f : full ≡ true) (e : m ≡ n) (s : Bool) 
 
 -- ---- a fresh delivery, way by way
 
-module _ (ws b : List ℕ) (n end p : ℕ) (r : Request) (short : length ws ≤ mostWords) where
-  left-short : length (drop p ws) ≤ mostWords
-  left-short = omega (arith, length-drop p ws)
+module _ (ws b : List ℕ) (st : Standing) (r : Request) (short : length ws ≤ mostWords) where
+  -- the words from the book's place on
+  abbrev vs : List ℕ
+  vs = drop (st .place) ws
 
-  pub fresh-refused : (k m : ℕ) → refused k ≡ drawOf r (drop p ws) → m ≡ cond (isFull b end r && isShort k) 15 k
-      → call (refused m) b ≡ freshDelivery ws b (stands n end p) r
+  left-short : length vs ≤ mostWords
+  left-short = omega (arith, length-drop (st .place) ws)
+
+  pub fresh-refused : (k m : ℕ) → refused k ≡ drawOf r (drop (st .place) ws) → m ≡ cond (isFull b (st .end) r && isShort k) 15 k
+      → call (refused m) b ≡ freshDelivery ws b st r
   unfolding freshDelivery
   fresh-refused k m e em =
       sym
-      (ap (λ (x : Outcome Booking). delivering x b (stands n end p) r) (drew-refused (drop p ws) b end r left-short k (sym e))
+      (ap (λ (x : Outcome Booking). delivering x b st r) (drew-refused vs b (st .end) r left-short k (sym e))
       ∙ ap (λ (x : ℕ). call (refused x) b) (sym em))
 
-  pub fresh-full : (c u : ℕ) → drawn c u ≡ drawOf r (drop p ws) → isFull b end r ≡ true → call (refused 15) b ≡ freshDelivery ws b (stands n end p) r
+  pub fresh-full : (d : Draw) → told d ≡ drawOf r (drop (st .place) ws) → isFull b (st .end) r ≡ true → call (refused 15) b ≡ freshDelivery ws b st r
   unfolding freshDelivery
-  fresh-full c u e f =
-      sym (ap (λ (x : Outcome Booking). delivering x b (stands n end p) r) (drew-full (drop p ws) b end r left-short c u (sym e) f))
+  fresh-full d e f = sym (ap (λ (x : Outcome Booking). delivering x b st r) (drew-full vs b (st .end) r left-short (d .count) (d .used) (sym e) f))
 
-  pub fresh-booked : (c u : ℕ) (b' : List ℕ) → drawn c u ≡ drawOf r (drop p ws) → isFull b end r ≡ false
-      → b' ≡ sets b end (entryBytes (booking r (n + 1) p u c)) → call (drawn (fresh c) u) b' ≡ freshDelivery ws b (stands n end p) r
+  -- booked as the entry x
+  pub fresh-booked : (d : Draw) (x : Entry) (b' : List ℕ) → told d ≡ drawOf r (drop (st .place) ws) → isFull b (st .end) r ≡ false
+      → x ≡ booking r (st .entries + 1) (st .place) (d .used) (d .count) → b' ≡ sets b (st .end) (entryBytes x)
+      → call (drawn (fresh (d .count)) (d .used)) b' ≡ freshDelivery ws b st r
   unfolding freshDelivery
-  fresh-booked c u b' e f eb =
-      ap (call (drawn (fresh c) u)) eb
-      ∙ sym (ap (λ (x : Outcome Booking). delivering x b (stands n end p) r) (drew-room (drop p ws) b end r left-short c u (sym e) f))
+  fresh-booked d x b' e f ex eb =
+      ap (call (drawn (fresh (d .count)) (d .used))) (eb ∙ ap (λ (y : Entry). sets b (st .end) (entryBytes y)) ex)
+      ∙ sym (ap (λ (y : Outcome Booking). delivering y b st r) (drew-room vs b (st .end) r left-short (d .count) (d .used) (sym e) f))
+
+-- the entry of a request is as long as the request says
+pub entry-size : (x : Entry) (r : Request) (s p u c : ℕ) → x ≡ booking r s p u c → lengthOf (x .request) ≡ lengthOf r
+entry-size x r s p u c e = ap (λ (y : Entry). lengthOf (y .request)) e

@@ -10,12 +10,13 @@ use Rattle.words.specs.Outcome.{Outcome, drawn, refused}
 use Rattle.words.specs.Refusals.{Condition, _on_, given, First, NoneHolds}
 use Rattle.bytes_le.specs.Zeros.{wiped}
 use Rattle.bytes_le.proofs.Numbers.{Bytes}
-use Rattle.layout.specs.Entry.{Entry}
+use Rattle.entry.specs.declared.Entry.{Entry}
+use Rattle.layout.specs.declared.Standing.{Standing}
 use Rattle.layout.specs.Book.{lengthAll}
 use Rattle.layout.specs.Sound.{offset}
-use Rattle.book.specs.Calls.{Call, call, booked, limits}
+use Rattle.opening.specs.Calls.{Call, call, booked, limits, IsOpen}
 use Rattle.book.specs.Strike.{strikeRefusals, leftBy, striking, strikeIn, strike}
-use Rattle.book.proofs.Opening.{past-limits, stopped, open-offset}
+use Rattle.opening.proofs.Opening.{past-limits, stopped, open-offset}
 
 module _ (ws b : List ℕ) (j : ℕ) where
   abbrev es : List Entry
@@ -51,12 +52,14 @@ module _ (ws b : List ℕ) (j : ℕ) where
         go : later ≡ call (drawn (length es - j) 0) (wiped (lengthAll (leftBy j es)) (lengthAll es) b)
         go = rw (le-ltb (length es) j m)
 
--- what the code leaves: n entries that end at `end`, of which those from i on are wiped
-pub struck-left : (ws b : List ℕ) (j : ℕ) → Bytes b → NoneHolds (limits ws b) → (n : ℕ) → n ≡ length (booked ws b) → (end : ℕ) → end ≡ lengthAll (booked ws b)
-    → j ≤ n → (i : ℕ) → i ≡ offset b (n - j) → (b' : List ℕ) → b' ≡ wiped i end b → call (drawn (n - j) 0) b' ≡ strike ws b j
-struck-left ws b j by h n en end ee l i ei b' eb =
+-- what the code leaves: of a book that stands as told, the entries from i on are wiped
+pub struck-left : (ws b : List ℕ) (j : ℕ) → Bytes b → (st : Standing) → IsOpen ws b st
+    → j ≤ st .entries → (i : ℕ) → i ≡ offset b (st .entries - j) → (b' : List ℕ) → b' ≡ wiped i (st .end) b → call (drawn (st .entries - j) 0) b' ≡ strike ws b j
+struck-left ws b j by st o l i ei b' eb =
+    let en : st .entries ≡ length (booked ws b) = ap (λ (x : Standing). x .entries) (sym (o .1)) in
+    let ee : st .end ≡ lengthAll (booked ws b) = ap (λ (x : Standing). x .end) (sym (o .1)) in
     let there : i ≡ lengthAll (leftBy j (booked ws b)) =
-    ei ∙ open-offset ws b by h (n - j) (omega arith) ∙ ap (λ (k : ℕ). lengthAll (take (k - j) (booked ws b))) en in
-    ap (call (drawn (n - j) 0)) (eb ∙ λ k. wiped (there k) (ee k) b)
+    ei ∙ open-offset ws b by (o .0) (st .entries - j) (omega arith) ∙ ap (λ (k : ℕ). lengthAll (take (k - j) (booked ws b))) en in
+    ap (call (drawn (st .entries - j) 0)) (eb ∙ λ k. wiped (there k) (ee k) b)
     ∙ ap (λ (k : ℕ). call (drawn (k - j) 0) (wiped (lengthAll (leftBy j (booked ws b))) (lengthAll (booked ws b)) b)) en
-    ∙ strike-done ws b j h (omega arith)
+    ∙ strike-done ws b j (o .0) (omega arith)

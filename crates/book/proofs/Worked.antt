@@ -4,13 +4,13 @@ use lib.Count.{leadingZeros}
 use Rattle.words.specs.Words.{tooLong}
 use Rattle.words.specs.Rule.{read}
 use Rattle.words.specs.Draw.{endings}
-use Rattle.geometric.specs.Standard.{standardGeometric}
+use Rattle.standard_geometric.specs.Standard.{standardGeometric}
 use Rattle.bytes_le.specs.LittleEndian.{bytesOf, spelled, wordsFrom}
 use Rattle.bytes_le.specs.Zeros.{allZero}
 use Rattle.kinds.specs.Kinds.{numbered, kindOf, parametersOf, sameRequest}
-use Rattle.layout.specs.Entry.{parameterBytes, fixedBytes, entryBytes, entryAt}
-use Rattle.layout.specs.Book.{lengthAll, usedAll, head, decodeFrom, decode}
-use Rattle.book.specs.Calls.{bookTooLong, isDamaged, booked}
+use Rattle.entry.specs.Entry.{parameterBytes, fixedBytes, entryBytes, entryAt}
+use Rattle.layout.specs.Book.{lengthAll, usedAll, head, decodeFrom, decode, bookTooLong}
+use Rattle.opening.specs.Calls.{isDamaged, booked}
 use Rattle.book.specs.Deliver.{isFull, freshRefusals, deliverRefusals, delivery, deliverTo, deliver}
 use Rattle.book.specs.Worked.{Worked}
 

@@ -11,13 +11,15 @@ use Rattle.words.specs.Refusals.{Condition, _on_, given}
 use Rattle.words.specs.Draw.{shorts, endings}
 use Rattle.words.specs.Paper.{numberOf}
 use Rattle.kinds.specs.declared.Request.{Request}
-use Rattle.kinds.specs.declared.Request.the-variants.{StandardGeometric}
 use Rattle.kinds.specs.Kinds.{lengthOf, sameRequest}
 use Rattle.draws.specs.Request.{parameterRefusals, readingOf}
-use Rattle.layout.specs.Entry.{Entry, booking, entryBytes}
+use Rattle.entry.specs.declared.Entry.{Entry}
+use Rattle.layout.specs.declared.Standing.{Standing}
+use Rattle.entry.specs.Entry.{booking, blank, entryBytes}
+use Rattle.layout.specs.Walk.{standing}
 use Rattle.book.specs.declared.Delivered.{Delivered}
 use Rattle.book.specs.declared.Delivered.the-variants.{Fresh, Copy, Refused}
-use Rattle.book.specs.Calls.{Call, call, booked, limits, Standing, standing}
+use Rattle.opening.specs.Calls.{Call, call, booked, limits}
 
 -- what an accepted delivery is told: a count freshly drawn, or the count booked before, marked as a copy
 pub data Booking : Type 0 where
@@ -31,10 +33,6 @@ isNext n s = eqb s (n + 1)
 -- 13: serial 0 or above next
 abbrev pub isAhead : ℕ → ℕ → Bool
 isAhead n s = eqb s 0 || ltb (n + 1) s
-
--- no booking: it stands where a serial has none, and no call answers with it
-abbrev pub blank : Entry
-blank = booking StandardGeometric 0 0 0 0
 
 -- the booking of a serial that is below next
 abbrev pub bookedAt : List Entry → ℕ → Entry
@@ -100,6 +98,6 @@ freshDelivery ws b st r =
 
 -- the enum in the paper's terms; nothing is lost (`one-delivered`)
 abbrev pub delivered : Delivered → Outcome Booking
-delivered (Fresh c u) = drawn (fresh c) u
-delivered (Copy c u) = drawn (copy c) u
+delivered (Fresh d) = drawn (fresh (d .count)) (d .used)
+delivered (Copy d) = drawn (copy (d .count)) (d .used)
 delivered (Refused x) = refused (numberOf x)

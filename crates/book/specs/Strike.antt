@@ -7,11 +7,11 @@ use Rattle.words.specs.Outcome.{Outcome, drawn, refused}
 use Rattle.words.specs.Refusals.{Condition, _on_, given}
 use Rattle.words.specs.Paper.{numberOf}
 use Rattle.bytes_le.specs.Zeros.{wiped}
-use Rattle.layout.specs.Entry.{Entry}
+use Rattle.entry.specs.declared.Entry.{Entry}
 use Rattle.layout.specs.Book.{lengthAll}
 use Rattle.book.specs.declared.Struck.{Struck}
 use Rattle.book.specs.declared.Struck.the-variants.{Left, Refused}
-use Rattle.book.specs.Calls.{Call, call, booked, limits}
+use Rattle.opening.specs.Calls.{Call, call, booked, limits}
 
 -- 16: j above the number of entries
 unfoldable pub strikeRefusals : List ℕ → List ℕ → List Entry → ℕ → List Condition

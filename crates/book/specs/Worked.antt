@@ -5,7 +5,7 @@ use mathlib.Core.Path.{_≡_}
 use lib.ListN.{replicate}
 use Rattle.words.specs.Outcome.{drawn}
 use Rattle.kinds.specs.declared.Request.the-variants.{StandardGeometric}
-use Rattle.book.specs.Calls.{call}
+use Rattle.opening.specs.Calls.{call}
 use Rattle.book.specs.Deliver.{fresh, deliver}
 
 abbrev pub workedBook : List ℕ

@@ -1,48 +1,39 @@
-// The book of draws: deliveries, strikes and redraws. A copy of a message gets the answer that it got before.
-use bytes_le::read_le;
+// The book of draws: deliveries and strikes. A copy of a message gets the answer that it got before.
 use bytes_le::wipe;
+use entry::Entry;
+use entry::entry_at;
+use entry::put_entry;
 use kinds::Request;
-use kinds::Row;
 use kinds::length_of;
 use kinds::same;
-use layout::COUNT;
-use layout::PLACE;
-use layout::SERIAL;
-use layout::USED;
-use layout::Walked;
+use layout::Standing;
 use layout::offset_of;
-use layout::put_entry;
-use layout::row_at;
-use layout::walk;
+use opening::Opened;
+use opening::open_book;
 use words::Answer;
+use words::Draw;
 use words::Refusal;
 use words::is_short;
 use words::number;
-use words::too_long;
 ghost use mathlib.Core.Path.{_≡_};
 ghost use mathlib.Core.List.{[], _∷_};
 ghost use mathlib.Core.Bool.{cond, not, _&&_};
-ghost use mathlib.Core.Option.{some};
-ghost use Prim.Native.Nat.{_+_, _≤_, _<_};
-ghost use lib.ListN.{length, drop};
-ghost use Rattle.words.specs.Refusals.{NoneHolds, _on_, given};
+ghost use Prim.Native.Nat.{_+_, _^_, _<_};
+ghost use Rattle.words.specs.Refusals.{_on_, given};
 ghost use Rattle.words.specs.Draw.{isShort};
-ghost use Rattle.words.specs.Paper.{numberOf};
+ghost use Rattle.words.specs.Paper.{numberOf, drew};
 ghost use Rattle.kinds.specs.Kinds.{sameRequest};
-ghost use Rattle.layout.specs.Entry.{Entry, placeAt, entryAt};
-ghost use Rattle.layout.specs.Places.{HasEntry};
-ghost use Rattle.book.specs.Calls.{IsOpen, booked, call, limits, opened, openedAs, stands};
+ghost use Rattle.entry.specs.Entry.{booking};
+ghost use Rattle.opening.specs.Calls.{IsOpen, call};
 ghost use Rattle.book.specs.Deliver.{copied, delivered, freshDelivery};
 ghost use Rattle.book.specs.Deliver as rules;
 ghost use Rattle.book.specs.Strike.{struck};
 ghost use Rattle.book.specs.Strike as strikes;
-ghost use Rattle.book.specs.Redraw.{redrawn, agrees};
-ghost use Rattle.book.specs.Redraw as redraws;
 
-// What a delivery answers: a count and the words used, freshly drawn and booked, or as they were booked before; or why there is none.
+// What a delivery answers: what was freshly drawn and booked, or what was booked before; or why there is nothing.
 pub enum Delivered {
-    Fresh { count: u64, used: usize },
-    Copy { count: u64, used: usize },
+    Fresh(Draw),
+    Copy(Draw),
     Refused(Refusal),
 }
 
@@ -52,73 +43,41 @@ pub enum Struck {
     Refused(Refusal),
 }
 
-// What a redraw answers: that all of so many entries agree, the lowest serial that doesn't (refusal 17), or why nothing was drawn again.
-pub enum Redrawn {
-    Agrees { entries: u64 },
-    Differs { serial: u64 },
-    Refused(Refusal),
-}
+// ---- a draw in an entry
 
-// How a book stands that is sound for its tape, or why a call goes no further.
-enum Opened {
-    Sound {
-        entries: u64,
-        end: usize,
-        place: usize,
-    },
-    Refused(Refusal),
-}
-
-// The most bytes that a book may have.
-const MOST_BYTES: usize = 65_536;
-
-// What every call begins with: the limits of tape and book, and the walk.
-fn open_book(tape: &[u64], book: &[u8]) -> Opened
-    ensures { λ r. ⌜ openedAs r ≡ opened (now (tape .entry)) (now (book .entry)) ⌝ }
+// The entry that books a draw after those that stand.
+fn entry_of(standing: Standing, request: Request, draw: Draw) -> Entry
+    requires { ⌜ standing .entries < 2 ^ 32 ⌝ }
+    ensures { λ r. ⌜ r ≡ booking request (standing .entries + 1) (standing .place) (draw .used) (draw .count) ⌝ }
 {
-    if too_long(tape) {
-        return Opened::Refused(Refusal::TapeTooLong);
+    Entry {
+        request,
+        serial: standing.entries + 1,
+        place: standing.place,
+        used: draw.used,
+        count: draw.count,
     }
-    if MOST_BYTES < book.len() {
-        return Opened::Refused(Refusal::BookTooLong);
-    }
-    match walk(book, tape.len()) {
-        Walked::Damaged => Opened::Refused(Refusal::BookDamaged),
-        Walked::Sound {
-            entries,
-            end,
-            place,
-        } => Opened::Sound {
-            entries,
-            end,
-            place,
-        },
+}
+
+// The draw that an entry books.
+fn draw_of(entry: Entry) -> Draw
+    ensures { λ r. ⌜ r ≡ drew (entry .count) (entry .used) ⌝ }
+{
+    Draw {
+        count: entry.count,
+        used: entry.used,
     }
 }
 
 // ---- deliveries
 
-// What the entry at `at` answers a delivery of its serial. A number that is no kind's is another request.
-fn copy_at(book: &[u8], at: usize, request: Request) -> Delivered
-    requires { ⌜ HasEntry (now book) at ⌝ }
-    ensures { λ r. ⌜ ((e : Entry) → entryAt (now (book .entry)) at ≡ some e → delivered r ≡ given (14 on not (sameRequest (e .request) request) ∷ []) (copied e)) ⌝ }
+// What an entry answers a delivery of its serial.
+fn copy_of(entry: Entry, request: Request) -> Delivered
+    ensures { λ r. ⌜ delivered r ≡ given (14 on not (sameRequest (entry .request) request) ∷ []) (copied entry) ⌝ }
 {
-    let row = row_at(book, at);
-    let Row::Of {
-        length: _,
-        parameters: _,
-        request: booked,
-    } = row
-    else {
-        return Delivered::Refused(Refusal::SerialReused);
-    };
+    let booked = entry.request;
     if same(booked, request) {
-        let count = read_le(book, at + COUNT, 8);
-        let used = read_le(book, at + USED, 4);
-        return Delivered::Copy {
-            count,
-            used: used as usize,
-        };
+        return Delivered::Copy(draw_of(entry));
     }
     Delivered::Refused(Refusal::SerialReused)
 }
@@ -138,34 +97,20 @@ fn in_order(refusal: Refusal, full: bool) -> Refusal
 
 // A delivery whose serial is next. The draw comes before the test of the room, since a parameter's refusal goes before 15;
 // where there is no room nothing of the draw is kept.
-fn fresh_at(
-    tape: &[u64],
-    book: &mut [u8],
-    entries: u64,
-    end: usize,
-    place: usize,
-    request: Request,
-) -> Delivered
-    requires { ⌜ IsOpen (now tape) (now book) (stands entries end place) ⌝ }
-    ensures { λ r. ⌜ call (delivered r) (now (book .exit)) ≡ freshDelivery (now (tape .entry)) (now (book .entry)) (stands entries end place) request ⌝ }
+fn fresh_at(tape: &[u64], book: &mut [u8], standing: Standing, request: Request) -> Delivered
+    requires { ⌜ IsOpen (now tape) (now book) standing ⌝ }
+    ensures { λ r. ⌜ call (delivered r) (now (book .exit)) ≡ freshDelivery (now (tape .entry)) (now (book .entry)) standing request ⌝ }
 {
-    let is_full = ((book.len() - end) as u64) < length_of(request);
+    let is_full = ((book.len() - standing.end) as u64) < length_of(request);
+    let place = standing.place;
     match draws::draw(&tape[place..], request) {
         Answer::Refused(refusal) => Delivered::Refused(in_order(refusal, is_full)),
-        Answer::Drawn { count, used } => {
+        Answer::Drawn(draw) => {
             if is_full {
                 return Delivered::Refused(Refusal::BookFull);
             }
-            put_entry(
-                book,
-                end,
-                request,
-                entries + 1,
-                place as u64,
-                used as u64,
-                count,
-            );
-            Delivered::Fresh { count, used }
+            put_entry(book, standing.end, entry_of(standing, request, draw));
+            Delivered::Fresh(draw)
         }
     }
 }
@@ -174,26 +119,25 @@ fn fresh_at(
 fn deliver_to(
     tape: &[u64],
     book: &mut [u8],
-    entries: u64,
-    end: usize,
-    place: usize,
+    standing: Standing,
     serial: u64,
     request: Request,
 ) -> Delivered
-    requires { ⌜ IsOpen (now tape) (now book) (stands entries end place) ⌝ }
+    requires { ⌜ IsOpen (now tape) (now book) standing ⌝ }
     ensures { λ r. ⌜ call (delivered r) (now (book .exit)) ≡ rules.deliver (now (tape .entry)) (now (book .entry)) serial request ⌝ }
 {
     if serial == 0 {
         return Delivered::Refused(Refusal::SerialAhead);
     }
-    if entries + 1 < serial {
+    if standing.entries + 1 < serial {
         return Delivered::Refused(Refusal::SerialAhead);
     }
-    if serial < entries + 1 {
+    if serial < standing.entries + 1 {
         let at = offset_of(book, serial - 1);
-        return copy_at(book, at, request);
+        let entry = entry_at(book, at);
+        return copy_of(entry, request);
     }
-    fresh_at(tape, book, entries, end, place, request)
+    fresh_at(tape, book, standing, request)
 }
 
 // Delivers a request. A serial that is next is drawn from the tape at the book's place and booked; a copy of a booked one gets what was
@@ -203,11 +147,7 @@ pub fn deliver(tape: &[u64], book: &mut [u8], serial: u32, request: Request) -> 
 {
     match open_book(tape, book) {
         Opened::Refused(refusal) => Delivered::Refused(refusal),
-        Opened::Sound {
-            entries,
-            end,
-            place,
-        } => deliver_to(tape, book, entries, end, place, serial as u64, request),
+        Opened::Sound(standing) => deliver_to(tape, book, standing, serial as u64, request),
     }
 }
 
@@ -219,80 +159,14 @@ pub fn strike(tape: &[u64], book: &mut [u8], j: u64) -> Struck
 {
     match open_book(tape, book) {
         Opened::Refused(refusal) => Struck::Refused(refusal),
-        Opened::Sound {
-            entries,
-            end,
-            place: _,
-        } => {
-            if entries < j {
+        Opened::Sound(standing) => {
+            if standing.entries < j {
                 return Struck::Refused(Refusal::StrikeTooMany);
             }
-            let at = offset_of(book, entries - j);
-            wipe(book, at, end);
-            Struck::Left {
-                entries: entries - j,
-            }
+            let left = standing.entries - j;
+            let at = offset_of(book, left);
+            wipe(book, at, standing.end);
+            Struck::Left { entries: left }
         }
-    }
-}
-
-// ---- redraws
-
-// Whether the entry at `at` is what its request draws from its place. A number that is no kind's draws nothing.
-fn agrees_at(tape: &[u64], book: &[u8], at: usize) -> bool
-    requires { ⌜ HasEntry (now book) at × (placeAt (now book) at ≤ length (now tape)) ⌝ }
-    ensures { λ r. ⌜ ((e : Entry) → entryAt (now (book .entry)) at ≡ some e → r ≡ agrees (now (tape .entry)) e) ⌝ }
-{
-    let place = read_le(book, at + PLACE, 4) as usize;
-    let row = row_at(book, at);
-    let Row::Of {
-        length: _,
-        parameters: _,
-        request: booked,
-    } = row
-    else {
-        return false;
-    };
-    match draws::draw(&tape[place..], booked) {
-        Answer::Refused(_) => false,
-        Answer::Drawn { count, used } => {
-            if count != read_le(book, at + COUNT, 8) {
-                return false;
-            }
-            used as u64 == read_le(book, at + USED, 4)
-        }
-    }
-}
-
-// Draws every entry of a sound book again.
-fn redraw_all(tape: &[u64], book: &[u8], entries: u64) -> Redrawn
-    requires { ⌜ NoneHolds (limits (now tape) (now book)) × (entries ≡ length (booked (now tape) (now book))) ⌝ }
-    ensures { λ r. ⌜ redrawn r ≡ redraws.redraw (now (tape .entry)) (now (book .entry)) ⌝ }
-{
-    let mut at: usize = 0;
-    let mut i: u64 = 0;
-    while i < entries {
-        if !agrees_at(tape, book, at) {
-            return Redrawn::Differs {
-                serial: read_le(book, at + SERIAL, 4),
-            };
-        }
-        at += read_le(book, at, 2) as usize;
-        i += 1;
-    }
-    Redrawn::Agrees { entries }
-}
-
-// Draws every entry again from its place. The book is only read.
-pub fn redraw(tape: &[u64], book: &[u8]) -> Redrawn
-    ensures { λ r. ⌜ redrawn r ≡ redraws.redraw (now (tape .entry)) (now (book .entry)) ⌝ }
-{
-    match open_book(tape, book) {
-        Opened::Refused(refusal) => Redrawn::Refused(refusal),
-        Opened::Sound {
-            entries,
-            end: _,
-            place: _,
-        } => redraw_all(tape, book, entries),
     }
 }

@@ -7,43 +7,44 @@ use native.Mathlib.Omega.{arith}
 use lib.Count.{leadingZeros}
 use lib.ListN.{getD, replicate}
 use Rattle.words.specs.declared.Refusal.{Refusal}
+use Rattle.words.specs.Outcome.{drawn}
+use Rattle.words.specs.Paper.{drew}
 use Rattle.words.specs.Words.{tooLong}
 use Rattle.words.specs.Rule.{read}
 use Rattle.words.specs.Draw.{endings}
 use Rattle.kinds.specs.declared.Request.the-variants.{StandardGeometric}
-use Rattle.geometric.specs.Standard.{standardGeometric}
+use Rattle.standard_geometric.specs.Standard.{standardGeometric}
 use Rattle.bytes_le.specs.LittleEndian.{bytesOf, spelled, wordsFrom}
 use Rattle.bytes_le.specs.Zeros.{allZero}
 use Rattle.kinds.specs.Kinds.{numbered, kindOf, requestOf, parametersOf, sameRequest}
-use Rattle.layout.specs.Entry.{parameterBytes, fixedBytes, entryBytes, entryAt}
-use Rattle.layout.specs.Book.{lengthAll, usedAll, head, decodeFrom, decode}
+use Rattle.entry.specs.Entry.{parameterBytes, fixedBytes, entryBytes, entryAt}
+use Rattle.layout.specs.Book.{lengthAll, usedAll, head, decodeFrom, decode, bookTooLong}
 use Rattle.book.specs.declared.Delivered.{Delivered}
 use Rattle.book.specs.declared.Delivered.the-variants.{Fresh, Refused}
-use Rattle.book.specs.Calls.{Call, bookTooLong, isDamaged, booked}
-use Rattle.book.specs.Deliver.{Booking, isFull, freshRefusals, deliverRefusals, delivery, deliverTo, deliver}
+use Rattle.opening.specs.Calls.{Call, isDamaged, booked}
+use Rattle.book.specs.Deliver.{Booking, fresh, delivered, isFull, freshRefusals, deliverRefusals, delivery, deliverTo, deliver}
 use Rattle.book.specs.Worked.{workedBook}
 use Rattle.book.proofs.Worked.{worked}
 use Rattle.demands.specs.Allowed.{DeliverAllows}
-use Rattle.demands.proofs.OneCall.{one-delivered}
 
 -- the delivery of the worked book, answered by a and leaving c
 abbrev Answers : Delivered → List ℕ → Type 0
 Answers a c = DeliverAllows (1 ∷ []) (replicate 24 0) 1 StandardGeometric a c
 
-told : (a : Delivered) (c : List ℕ) → Answers a c → a ≡ Fresh 63 1
-told a c e = one-delivered a (Fresh 63 1) (ap (λ (x : Call Booking). x .outcome) (e ∙ worked))
+told : (a : Delivered) (c : List ℕ) → Answers a c → delivered a ≡ drawn (fresh 63) 1
+told a c e = ap (λ (x : Call Booking). x .outcome) (e ∙ worked)
 
 -- one that refuses everything
 pub refuses-everything : (x : Refusal) (c : List ℕ) → Answers (Refused x) c → ⊥
 refuses-everything x c e = let z : _≡_ {A = ℕ} 0 1 = cc (told (Refused x) c e) in omega arith
 
 -- one whose count is always 0
-pub counts-zero : (u : ℕ) (c : List ℕ) → Answers (Fresh 0 u) c → ⊥
-counts-zero u c e = let z : _≡_ {A = ℕ} 0 63 = cc (told (Fresh 0 u) c e) in omega arith
+pub counts-zero : (u : ℕ) (c : List ℕ) → Answers (Fresh (drew 0 u)) c → ⊥
+counts-zero u c e = let z : _≡_ {A = ℕ} 0 63 = cc (told (Fresh (drew 0 u)) c e) in omega arith
 
 -- one that invents words used
-pub invents-used : (u : ℕ) (c : List ℕ) → Answers (Fresh 63 u) c → u ≡ 1
-invents-used u c e = cc (told (Fresh 63 u) c e)
+pub invents-used : (u : ℕ) (c : List ℕ) → Answers (Fresh (drew 63 u)) c → u ≡ 1
+invents-used u c e = cc (told (Fresh (drew 63 u)) c e)
 
 -- one that leaves the book untouched, whatever it answers
 pub untouched : (a : Delivered) → Answers a (replicate 24 0) → ⊥

@@ -6,7 +6,8 @@ use Rattle.words.specs.Outcome.{Outcome, countOf, usedOf}
 use Rattle.kinds.specs.declared.Request.{Request}
 use Rattle.book.specs.declared.Delivered.{Delivered}
 use Rattle.book.specs.declared.Struck.{Struck}
-use Rattle.book.specs.Calls.{Call, booked, standing}
+use Rattle.opening.specs.Calls.{Call, booked}
+use Rattle.layout.specs.Walk.{standing}
 use Rattle.book.specs.Deliver.{Booking, delivered, deliverTo, deliver, afterDelivery}
 use Rattle.book.specs.Strike.{struck, strikeIn, strike, afterStrike}
 use Rattle.demands.specs.Allowed.{DeliverAllows, StrikeAllows}

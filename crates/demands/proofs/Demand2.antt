@@ -1,8 +1,8 @@
 -- Demand 2 for deliveries, strikes and redraws, proved. Assumes nothing.
-use mathlib.Core.Path.{_≡_, refl, sym, ap, _∙_}
-use mathlib.Core.Bool.{true, false, cond}
+use mathlib.Core.Path.{_≡_, sym, ap, _∙_}
+use mathlib.Core.Bool.{false, cond}
 use mathlib.Core.List.{List, [], _∷_, _++_}
-use mathlib.Core.Logic.{inl, _↔_}
+use mathlib.Core.Logic.{_↔_}
 use mathlib.Core.Option.{Option, none, some}
 use Prim.Native.Nat.{ℕ, _-_}
 use native.Mathlib.Omega.{arith}
@@ -18,15 +18,16 @@ use Rattle.kinds.specs.declared.Request.{Request}
 use Rattle.draws.specs.Request.{parameterRefusals, readingOf}
 use Rattle.draws.proofs.Laws.{request-ends}
 use Rattle.draws.proofs.Demand2 as draws
-use Rattle.layout.specs.Entry.{Entry}
+use Rattle.entry.specs.declared.Entry.{Entry}
 use Rattle.layout.proofs.Decoding.{by-test}
 use Rattle.book.specs.declared.Delivered.{Delivered}
 use Rattle.book.specs.declared.Struck.{Struck}
-use Rattle.book.specs.declared.Redrawn.{Redrawn}
-use Rattle.book.specs.Calls.{Call, booked, limits, standing}
+use Rattle.redraws.specs.declared.Redrawn.{Redrawn}
+use Rattle.opening.specs.Calls.{Call, booked, limits}
+use Rattle.layout.specs.Walk.{standing}
 use Rattle.book.specs.Deliver.{Booking, isNext, isAhead, isReused, isFull, whenNext, freshRefusals, deliverRefusals, freshly, delivery, deliverTo, deliver, delivered}
 use Rattle.book.specs.Strike.{strikeIn, strike, struck}
-use Rattle.book.specs.Redraw.{lowest, Redrawing, redrawOf, redraw, redrawn}
+use Rattle.redraws.specs.Redraw.{lowest, Redrawing, redrawOf, redraw, redrawn}
 use Rattle.book.proofs.Delivering.{copy-unrefused, next-asked}
 use Rattle.demands.specs.Allowed.{DeliverAllows, StrikeAllows, RedrawAllows}
 use Rattle.demands.specs.Demand2.{deliverConditions, strikeConditions, redrawConditions, DeliverDemanded, StrikeDemanded, RedrawDemanded, Demand2}

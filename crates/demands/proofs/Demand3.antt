@@ -14,18 +14,20 @@ use Rattle.words.specs.Refusals.{NoneHolds}
 use Rattle.kinds.specs.declared.Request.{Request}
 use Rattle.draws.specs.Request.{drawOf}
 use Rattle.kinds.specs.Kinds.{lengthOf, RequestFits}
-use Rattle.layout.specs.Entry.{Entry, booking}
-use Rattle.layout.specs.Book.{entriesBytes, lengthAll, usedAll, encode}
+use Rattle.entry.specs.declared.Entry.{Entry}
+use Rattle.entry.specs.Entry.{booking, blank}
+use Rattle.layout.specs.Book.{entriesBytes, lengthAll, usedAll, encode, mostBytes}
 use Rattle.kinds.proofs.Requests.{same-self}
 use Rattle.layout.proofs.Decoding.{Chain, zeros-equal}
 use Rattle.layout.proofs.Positions.{length-all-append, chain-mid}
-use Rattle.book.specs.Calls.{Call, call, mostBytes, booked, limits, standing}
-use Rattle.book.specs.Deliver.{Booking, fresh, copy, blank, bookedAt, deliverRefusals, delivery, delivering, deliverTo, deliver}
+use Rattle.opening.specs.Calls.{Call, call, booked, limits}
+use Rattle.layout.specs.Walk.{standing}
+use Rattle.book.specs.Deliver.{Booking, fresh, copy, bookedAt, deliverRefusals, delivery, delivering, deliverTo, deliver}
 use Rattle.book.specs.Strike.{strikeRefusals, leftBy, striking, strikeIn, strike}
-use Rattle.book.specs.Redraw.{agrees, lowest, redraw}
-use Rattle.book.proofs.Opening.{open-tape, open-book}
+use Rattle.redraws.specs.Redraw.{agrees, lowest, redraw}
+use Rattle.opening.proofs.Opening.{open-tape, open-book}
 use Rattle.book.proofs.Delivering.{deliver-copy}
-use Rattle.book.proofs.Redrawing.{redraw-agrees}
+use Rattle.redraws.proofs.Redrawing.{redraw-agrees}
 use Rattle.demands.specs.Demand3 as stated
 use Rattle.demands.specs.Demand3.{Operation, Stood, stood, afterDelivering, afterStriking, State, state, next, run, Called, Runs, OperationsFit, InSerialOrder, Redelivers, Kept, Demand3}
 use Rattle.demands.proofs.Laws.{by-given}

@@ -1,27 +1,27 @@
 -- The readings `delivered`, `struck` and `redrawn` lose nothing: equal readings, equal answers. So an equation that a contract of `book`
 -- states leaves one answer. Assumes nothing.
 use mathlib.Core.Path.{_≡_, ap}
-use Rattle.words.proofs.OneAnswer.{one-refusal}
+use Rattle.words.proofs.OneAnswer.{one-refusal, one-draw}
 use Rattle.book.specs.declared.Delivered.{Delivered}
 use Rattle.book.specs.declared.Delivered.the-variants.{Fresh, Copy, Refused}
 use Rattle.book.specs.declared.Struck.{Struck}
 use Rattle.book.specs.declared.Struck.the-variants as of-struck
-use Rattle.book.specs.declared.Redrawn.{Redrawn}
-use Rattle.book.specs.declared.Redrawn.the-variants as of-redrawn
+use Rattle.redraws.specs.declared.Redrawn.{Redrawn}
+use Rattle.redraws.specs.declared.Redrawn.the-variants as of-redrawn
 use Rattle.book.specs.Deliver.{delivered}
 use Rattle.book.specs.Strike.{struck}
-use Rattle.book.specs.Redraw.{Redrawing, redrawn}
+use Rattle.redraws.specs.Redraw.{Redrawing, redrawn}
 
 -- of deliveries
 pub one-delivered : (a b : Delivered) → delivered a ≡ delivered b → a ≡ b
-one-delivered (Fresh c u) (Fresh d v) e = cc
-one-delivered (Fresh c u) (Copy d v) e = cc
-one-delivered (Fresh c u) (Refused y) e = cc
-one-delivered (Copy c u) (Fresh d v) e = cc
-one-delivered (Copy c u) (Copy d v) e = cc
-one-delivered (Copy c u) (Refused y) e = cc
-one-delivered (Refused x) (Fresh d v) e = cc
-one-delivered (Refused x) (Copy d v) e = cc
+one-delivered (Fresh c) (Fresh d) e = ap Fresh (one-draw c d (cc) (cc))
+one-delivered (Fresh c) (Copy d) e = cc
+one-delivered (Fresh c) (Refused y) e = cc
+one-delivered (Copy c) (Fresh d) e = cc
+one-delivered (Copy c) (Copy d) e = ap Copy (one-draw c d (cc) (cc))
+one-delivered (Copy c) (Refused y) e = cc
+one-delivered (Refused x) (Fresh d) e = cc
+one-delivered (Refused x) (Copy d) e = cc
 one-delivered (Refused x) (Refused y) e = ap Refused (one-refusal x y (cc))
 
 -- of strikes

@@ -11,6 +11,7 @@ use lib.Seq.{split-at, length-take-le}
 use borrow.Author.Tests.{lt-ltb, le-ltb, eqb-true, eqb-false, ltb-false, not-false}
 use Rattle.words.specs.Words.{mostWords}
 use Rattle.words.specs.Outcome.{Outcome, drawn, refused}
+use Rattle.words.specs.Paper as words
 use Rattle.words.specs.Refusals.{Condition, _on_, First, NoneHolds}
 use Rattle.words.specs.Draw.{shorts, endings}
 use Rattle.words.proofs.Tape.{limit-within}
@@ -21,17 +22,19 @@ use Rattle.kinds.specs.declared.Request.{Request}
 use Rattle.draws.specs.Request.{drawing, parameterRefusals, readingOf, drawOf}
 use Rattle.draws.proofs.Laws as draws
 use Rattle.kinds.specs.Kinds.{lengthOf, RequestFits}
-use Rattle.layout.specs.Entry.{Entry, booking}
-use Rattle.layout.specs.Book.{lengthAll, usedAll, encode}
+use Rattle.entry.specs.declared.Entry.{Entry}
+use Rattle.entry.specs.Entry.{booking, blank}
+use Rattle.layout.specs.Book.{lengthAll, usedAll, encode, mostBytes}
 use Rattle.kinds.proofs.Requests.{same-exactly}
-use Rattle.layout.proofs.Entries.{Fits}
+use Rattle.entry.proofs.Entries.{Fits}
 use Rattle.layout.proofs.Decoding.{by-test, neither-holds, Chain, many, length-encode, encode-decodes}
 use Rattle.layout.proofs.Changing.{chain-snoc, append-encode, wiped-encode}
 use Rattle.layout.proofs.Positions.{length-all-append, used-all-append, length-one, used-one, chain-left, chain-mid}
-use Rattle.book.specs.Calls.{Call, call, mostBytes, booked, limits, standing}
-use Rattle.book.specs.Deliver.{Booking, fresh, copy, isNext, isAhead, blank, bookedAt, isReused, isFull, freshRefusals, deliverRefusals, freshly, copied, delivery, delivering, deliverTo, deliver, freshDelivery}
+use Rattle.opening.specs.Calls.{Call, call, booked, limits}
+use Rattle.layout.specs.Walk.{standing}
+use Rattle.book.specs.Deliver.{Booking, fresh, copy, isNext, isAhead, bookedAt, isReused, isFull, freshRefusals, deliverRefusals, freshly, copied, delivery, delivering, deliverTo, deliver, freshDelivery}
 use Rattle.book.specs.Strike.{strikeRefusals, leftBy, striking, strikeIn, strike}
-use Rattle.book.proofs.Opening.{opens}
+use Rattle.opening.proofs.Opening.{opens}
 use Rattle.book.proofs.Fresh.{fresh-booked}
 use Rattle.book.proofs.Delivering as book
 use Rattle.demands.proofs.Demand2.{fresh-covered}
@@ -161,7 +164,7 @@ module _ (ws : List ℕ) (n : ℕ) (within : length ws ≤ mostWords) (small : n
     deliver-fresh =
         sym (book.deliver-fresh ws b (length es + 1) r (found .0) (ap (λ (l : List Entry). length l + 1) (sym (found .1))))
         ∙ ap (λ (l : List Entry). freshDelivery ws b (standing l) r) (found .1)
-        ∙ sym (fresh-booked ws b (length es) (lengthAll es) (usedAll es) r within c u _ (sym drew) (room-left r .1 room) refl)
+        ∙ sym (fresh-booked ws b (standing es) r within (words.drew c u) new _ (sym drew) (room-left r .1 room) refl refl)
         ∙ ap (call (drawn (fresh c) u)) (append-encode n es new room)
 
   -- What a delivery can do: refuse by the condition that holds first, tell again what the entry with its serial and request booked, or

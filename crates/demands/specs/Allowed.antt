@@ -5,11 +5,11 @@ use mathlib.Core.Path.{_≡_}
 use Rattle.kinds.specs.declared.Request.{Request}
 use Rattle.book.specs.declared.Delivered.{Delivered}
 use Rattle.book.specs.declared.Struck.{Struck}
-use Rattle.book.specs.declared.Redrawn.{Redrawn}
-use Rattle.book.specs.Calls.{call}
+use Rattle.redraws.specs.declared.Redrawn.{Redrawn}
+use Rattle.opening.specs.Calls.{call}
 use Rattle.book.specs.Deliver.{delivered, deliver}
 use Rattle.book.specs.Strike.{struck, strike}
-use Rattle.book.specs.Redraw.{redrawn, redraw}
+use Rattle.redraws.specs.Redraw.{redrawn, redraw}
 
 -- over the words ws and the book b at entry, the answer a and the book c at exit
 abbrev pub DeliverAllows : List ℕ → List ℕ → ℕ → Request → Delivered → List ℕ → Type 0

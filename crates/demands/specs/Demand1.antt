@@ -7,14 +7,14 @@ use Rattle.words.specs.declared.Answer.{Answer}
 use Rattle.words.specs.Outcome.{Outcome, drawn, refused, countOf, usedOf}
 use Rattle.words.specs.Paper.{paper}
 use Rattle.hypergeometric.specs.declared.SetUp.{SetUp}
-use Rattle.hypergeometric.specs.Hypergeometric.{setUpPaper}
+use Rattle.hypergeometric.specs.SetUp.{setUpPaper}
 use Rattle.kinds.specs.declared.Request.{Request}
 use Rattle.book.specs.declared.Delivered.{Delivered}
 use Rattle.book.specs.declared.Struck.{Struck}
-use Rattle.book.specs.declared.Redrawn.{Redrawn}
+use Rattle.redraws.specs.declared.Redrawn.{Redrawn}
 use Rattle.book.specs.Deliver.{Booking, fresh, copy, delivered}
 use Rattle.book.specs.Strike.{struck}
-use Rattle.book.specs.Redraw.{redrawn}
+use Rattle.redraws.specs.Redraw.{redrawn}
 use Rattle.demands.specs.Allowed.{DeliverAllows, StrikeAllows, RedrawAllows}
 
 -- the count that an accepted delivery is told

@@ -12,11 +12,12 @@ use Rattle.kinds.specs.declared.Request.{Request}
 use Rattle.draws.specs.Demand2 as draws
 use Rattle.book.specs.declared.Delivered.{Delivered}
 use Rattle.book.specs.declared.Struck.{Struck}
-use Rattle.book.specs.declared.Redrawn.{Redrawn}
-use Rattle.book.specs.Calls.{booked, standing}
+use Rattle.redraws.specs.declared.Redrawn.{Redrawn}
+use Rattle.opening.specs.Calls.{booked}
+use Rattle.layout.specs.Walk.{standing}
 use Rattle.book.specs.Deliver.{Booking, delivered, deliverRefusals, delivery, afterDelivery}
 use Rattle.book.specs.Strike.{struck, strikeRefusals, afterStrike}
-use Rattle.book.specs.Redraw.{redrawn, redrawRefusals, lowest}
+use Rattle.redraws.specs.Redraw.{redrawn, redrawRefusals, lowest}
 use Rattle.demands.specs.Allowed.{DeliverAllows, StrikeAllows, RedrawAllows}
 
 -- each call's conditions, in its order, over the entries that the book holds

@@ -11,10 +11,11 @@ use Rattle.kinds.specs.declared.Request.{Request}
 use Rattle.kinds.specs.Kinds.{RequestFits}
 use Rattle.book.specs.declared.Delivered.{Delivered}
 use Rattle.book.specs.declared.Struck.{Struck}
-use Rattle.book.specs.Calls.{call, mostBytes}
+use Rattle.opening.specs.Calls.{call}
+use Rattle.layout.specs.Book.{mostBytes}
 use Rattle.book.specs.Deliver.{Booking, fresh, copy, delivered, deliver}
 use Rattle.book.specs.Strike.{struck, strike}
-use Rattle.book.specs.Redraw.{redraw}
+use Rattle.redraws.specs.Redraw.{redraw}
 use Rattle.demands.specs.Allowed.{DeliverAllows, StrikeAllows}
 
 -- what a caller may ask that can write the book

@@ -13,7 +13,7 @@ use Rattle.words.specs.Draw.{isShort}
 use Rattle.words.proofs.Lawful.{Lawful, lawful-exactly, lawful-local, lawful-used, lawful-parameter}
 use Rattle.poisson.proofs.Laws.{poisson-lawful}
 use Rattle.geometric.proofs.GeometricLaws.{geometric-lawful}
-use Rattle.geometric.proofs.StandardLaws.{standard-lawful}
+use Rattle.standard_geometric.proofs.Laws.{standard-lawful}
 use Rattle.hypergeometric.proofs.Laws.{hypergeometric-lawful}
 use Rattle.kinds.specs.declared.Request.{Request}
 use Rattle.kinds.specs.declared.Request.the-variants.{Hypergeometric, Poisson, Geometric, StandardGeometric}

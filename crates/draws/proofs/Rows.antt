@@ -6,14 +6,15 @@ use Rattle.words.specs.Words.{tooLong, fractionOf}
 use Rattle.words.specs.Rule.{read}
 use Rattle.words.specs.Draw.{endings, draw}
 use Rattle.poisson.specs.Poisson.{inRange, poisson}
-use Rattle.geometric.specs.Power.{halved, powerOf}
-use Rattle.geometric.specs.Squares.{squaring, squares}
+use Rattle.search.specs.Power.{halved, powerOf}
+use Rattle.search.specs.Squares.{squaring, squares}
 use Rattle.geometric.specs.Geometric.{isProbability, isLarge, qOf, isNever, isTooRare, geometricReading, geometric}
-use Rattle.geometric.specs.Standard.{standardGeometric}
+use Rattle.standard_geometric.specs.Standard.{standardGeometric}
 use Rattle.hypergeometric.specs.Reduction.{byMarked, bySample, reduction}
-use Rattle.hypergeometric.specs.First.{timesIn, overIn, atFactor, factors, fractionOfFactorials, firstProbability}
+use Rattle.first_probability.specs.First.{timesIn, overIn, atFactor, factors, fractionOfFactorials, firstProbability}
+use Rattle.hypergeometric.specs.SetUp.{setUp, isTaken, zeroOrNotFinite, trayRefusals}
 use Rattle.hypergeometric.specs.Inversion.{nextP, walk, inverted}
-use Rattle.hypergeometric.specs.Hypergeometric.{setUp, isTaken, zeroOrNotFinite, trayRefusals, counted, hypergeometric}
+use Rattle.hypergeometric.specs.Hypergeometric.{counted, hypergeometric}
 use Rattle.draws.specs.Table.{Table}
 
 pub rows : Table

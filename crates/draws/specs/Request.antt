@@ -7,7 +7,7 @@ use Rattle.words.specs.Refusals.{Condition}
 use Rattle.words.specs.Draw.{Drawing, draw}
 use Rattle.poisson.specs.Poisson.{poisson}
 use Rattle.geometric.specs.Geometric.{geometric}
-use Rattle.geometric.specs.Standard.{standardGeometric}
+use Rattle.standard_geometric.specs.Standard.{standardGeometric}
 use Rattle.hypergeometric.specs.Reduction.{InSupport}
 use Rattle.hypergeometric.specs.Hypergeometric.{hypergeometric}
 use Rattle.kinds.specs.declared.Request.{Request}

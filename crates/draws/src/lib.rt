@@ -17,6 +17,6 @@ pub fn draw(tape: &[u64], request: Request) -> Answer
         } => hypergeometric::sample(tape, total, marked, sample),
         Request::Poisson { threshold } => poisson::sample_bits(tape, threshold),
         Request::Geometric { p } => geometric::sample_bits(tape, p),
-        Request::StandardGeometric => geometric::sample_standard(tape),
+        Request::StandardGeometric => standard_geometric::sample(tape),
     }
 }

@@ -21,10 +21,11 @@ use Rattle.words.proofs.Keeping.{After, after-cond, reading-keeps}
 use Rattle.words.proofs.Locality.{reading-local, cond-local, const-local}
 use Rattle.words.proofs.Drawing.{accepted-within, accepted-reading}
 use Rattle.words.proofs.Lawful.{Lawful, lawful-exactly, lawful-local}
-use Rattle.geometric.specs.Power.{power}
-use Rattle.geometric.specs.Squares.{squares}
-use Rattle.geometric.specs.Geometric.{isProbability, isLarge, qOf, isNever, trivialRule, Search, firstRun, remainderWord, acceptance, searching, searchRule, geometricReading, isTooRare, probabilityRefusals, geometric}
-use Rattle.geometric.proofs.Squarings.{span-bounds}
+use Rattle.search.specs.Power.{power}
+use Rattle.search.specs.Squares.{half, squares}
+use Rattle.search.specs.Search.{Search, firstRun, remainderWord, acceptance, searching, searchRule}
+use Rattle.geometric.specs.Geometric.{isProbability, isLarge, qOf, isNever, trivialRule, geometricReading, isTooRare, geometric}
+use Rattle.search.proofs.Squarings.{span-bounds}
 
 -- ---- the range of p
 
@@ -244,6 +245,13 @@ module _ (p : Float) (ws : List ℕ) where
   -- a reading runs out by a short refusal alone
   pub reading-short : (n : ℕ) → geometricReading p ws ≡ refused n → isShort n ≡ true
   reading-short n x = by-ends (isLarge p) (isNever p) n (sym reading-by ∙ x)
+
+-- what the search reads is the draw's, where p is below 2/3, q isn't 1 and its squarings come down
+pub search-given : (p : Float) (ws : List ℕ) → isLarge p ≡ false → isNever p ≡ false → lt half (squares (qOf p) .pi) ≡ false
+    → (k : ℕ) (pi : Float) → k ≡ squares (qOf p) .k → pi ≡ squares (qOf p) .pi
+    → (o : Outcome ℕ) → o ≡ reading (searchRule (qOf p) (2 ^ k) pi) ws → o ≡ cond (isTooRare p) (refused 9) (geometricReading p ws)
+unfolding geometricReading isTooRare
+search-given p ws l n r k pi ek epi o e = e ∙ simp (l, n, r, ← ek, ← epi)
 
 reading-local-of : (p : Float) → Local (geometricReading p)
 unfolding geometricReading

@@ -1,7 +1,1 @@
-pub mod Powers
-pub mod Squarings
-pub mod Edge
-pub mod Spans
-pub mod Zeros
-pub mod StandardLaws
 pub mod GeometricLaws

@@ -1,4 +1,1 @@
-pub mod Power
-pub mod Squares
 pub mod Geometric
-pub mod Standard

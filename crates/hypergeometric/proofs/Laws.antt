@@ -14,22 +14,13 @@ use Rattle.words.proofs.Keeping.{reading-keeps}
 use Rattle.words.proofs.Locality.{reading-local}
 use Rattle.words.proofs.Drawing.{accepted-passed, accepted-reading}
 use Rattle.words.proofs.Lawful.{Lawful, lawful-exactly, lawful-local}
-use Rattle.hypergeometric.specs.Reduction.{populationCap, reduction, InSupport}
-use Rattle.hypergeometric.specs.Hypergeometric.{setUp, isTaken, trayRefusals, counted, inversionRule, hypergeometric}
-use Rattle.hypergeometric.specs.RustTest.{rustTakes}
-use Rattle.hypergeometric.proofs.Reducing.{n1+n2, k≤n2, carries}
+use Rattle.hypergeometric.specs.Reduction.{populationCap, InSupport}
+use Rattle.hypergeometric.specs.SetUp.{setUp, trayRefusals}
+use Rattle.hypergeometric.specs.Hypergeometric.{counted, inversionRule, hypergeometric}
+use Rattle.hypergeometric.proofs.Reducing.{carries}
+use Rattle.hypergeometric.proofs.Settling.{accepted-K, accepted-n, accepted-N}
 use Rattle.hypergeometric.proofs.Walks.{StepExact, step-exact, inverted≤}
-use Rattle.hypergeometric.proofs.Settling.{accepted-K, accepted-n, accepted-N, set-up-small}
-use Rattle.hypergeometric.proofs.ModeTest.{mode-agrees}
-
--- below the cap, the inversion is taken exactly where the Rust takes it
-pub taken-agrees : (N K n : ℕ) → K ≤ N → n ≤ N → N ≤ populationCap
-    → isTaken N (setUp N K n) ≡ rustTakes N (reduction N K n .n1) (reduction N K n .n2) (reduction N K n .k)
-unfolding isTaken setUp
-taken-agrees N K n hK hn h =
-    let r = reduction N K n in
-    let s = n1+n2 N K n hK hn in
-    sym (mode-agrees N (r .n1) (r .n2) (r .k) h (omega arith) (k≤n2 N K n hK hn) (omega arith))
+use Rattle.hypergeometric.proofs.Kept.{set-up-small}
 
 -- no step of an accepted tray's inversion casts a whole number that a float would round
 pub inversion-exact : (N K n : ℕ) → NoneHolds (trayRefusals N K n) → (x : ℕ) → x < setUp N K n .k

@@ -1,7 +1,7 @@
 pub mod Reducing
-pub mod Factors
-pub mod Walks
 pub mod Settling
 pub mod ModeTest
 pub mod Signs
+pub mod Walks
+pub mod Kept
 pub mod Laws

@@ -17,9 +17,12 @@ use lib.Ieee.Order.{round-mono}
 use lib.Ieee.Scale.{round-same}
 use lib.Ieee.Positive.{num, den, den-pos, positive, own-value, positive-of-value, mul-at, between, values-of-le}
 use Rattle.words.specs.Words.{ratio}
-use Rattle.hypergeometric.specs.First.{asFloat}
+use Rattle.hypergeometric.specs.Reduction.{populationCap, reduction}
+use Rattle.first_probability.specs.First.{asFloat}
+use Rattle.hypergeometric.specs.SetUp.{setUp, isTaken}
 use Rattle.hypergeometric.specs.RustTest.{floor, larger, rustMode, rustTakes}
-use Rattle.hypergeometric.proofs.Factors.{whole-exact}
+use Rattle.hypergeometric.proofs.Reducing.{n1+n2, k≤n2}
+use Rattle.first_probability.proofs.Factors.{whole-exact}
 
 -- ---- whole numbers as floats: their test, difference and quotient
 -- two orders that hold together are one test
@@ -165,3 +168,12 @@ mode-agrees N n1 n2 k hN h1 hk h2 =
     rw (div-whole _ (asFloat B) A B (omega arith) x (whole-exact B (omega arith)), floor-is q (r .0), no-excess k n2 hk (omega arith))
     (whole-test c (cut-top q (r .0) (r .1))
     ∙ ltb-same c 10 A (10 * B) (λ h. cut-below q (r .0) (below-ten A B h (omega arith))) (λ h. cut-from q (r .0) (from-ten A B (omega arith) h)))
+
+-- below the cap, the inversion is taken exactly where the Rust takes it
+pub taken-agrees : (N K n : ℕ) → K ≤ N → n ≤ N → N ≤ populationCap
+    → isTaken N (setUp N K n) ≡ rustTakes N (reduction N K n .n1) (reduction N K n .n2) (reduction N K n .k)
+unfolding isTaken setUp
+taken-agrees N K n hK hn h =
+    let r = reduction N K n in
+    let s = n1+n2 N K n hK hn in
+    sym (mode-agrees N (r .n1) (r .n2) (r .k) h (omega arith) (k≤n2 N K n hK hn) (omega arith))

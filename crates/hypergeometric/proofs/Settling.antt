@@ -1,27 +1,21 @@
 -- Laws of the set-up: what an accepted tray's numbers keep to, what a record that the set-up gave is, and that its answer's reading loses
 -- nothing. Assumes nothing.
 use mathlib.Core.Path.{_≡_, sym, ap, _∙_, subst}
-use mathlib.Core.Bool.{false}
-use mathlib.Core.List.{List}
 use Prim.Native.Nat.{ℕ, _+_, _*_, _^_, _≤_, _<_, min}
 use native.Mathlib.Nat.{mul-le-mul}
 use native.Mathlib.Omega.{arith}
 use borrow.Author.Tests.{ltb-false}
-use Rattle.words.specs.Words.{tooLong}
-use Rattle.words.specs.Outcome.{drawn, refused}
-use Rattle.words.specs.Draw.{draw}
+use Rattle.words.specs.Outcome.{drawn}
 use Rattle.words.specs.Refusals.{NoneHolds}
 use Rattle.words.specs.Paper.{numberOf}
 use Rattle.words.proofs.Reading.{refused-not-drawn}
-use Rattle.words.proofs.Exactly.{exactly, drawn-exactly}
-use Rattle.words.proofs.Drawing.{parameters-next, draw-passed}
+use Rattle.words.proofs.Exactly.{drawn-exactly}
 use Rattle.words.proofs.OneAnswer.{one-refusal}
 use Rattle.hypergeometric.specs.declared.Hypergeometric.{Hypergeometric}
 use Rattle.hypergeometric.specs.declared.SetUp.{SetUp}
 use Rattle.hypergeometric.specs.declared.SetUp.the-variants.{Ready, Refused}
 use Rattle.hypergeometric.specs.Reduction.{populationCap, Lands, reduction}
-use Rattle.hypergeometric.specs.Inversion.{Small}
-use Rattle.hypergeometric.specs.Hypergeometric.{setUp, trayRefusals, settled, setUpPaper, FromSetUp, hypergeometric, fromKept}
+use Rattle.hypergeometric.specs.SetUp.{setUp, trayRefusals, settled, setUpPaper, FromSetUp}
 use Rattle.hypergeometric.proofs.Reducing.{n1+n2, k≤n2, lands}
 
 -- the sizes of the reduction's numbers, for what is added and multiplied with them
@@ -57,23 +51,9 @@ module _ (N K n : ℕ) (none : NoneHolds (trayRefusals N K n)) where
   unfolding trayRefusals
   accepted-N = ltb-false populationCap N (none .1 .1 .0)
 
-  pub set-up-small : Small (setUp N K n .n1) (setUp N K n .n2) (setUp N K n .k)
-  unfolding setUp
-  set-up-small =
-      let s = sizes N K n accepted-K accepted-n accepted-N in
-      let h = accepted-N in
-      record { n1≤ = omega (arith, s .n1≤); n2≤ = omega (arith, s .n2≤); k≤ = k≤n2 N K n accepted-K accepted-n }
-
   pub set-up-lands : (x : ℕ) → x ≤ min (setUp N K n .n1) (setUp N K n .k) → Lands (setUp N K n .sign) (setUp N K n .offset) x
   unfolding setUp
   set-up-lands = let h = accepted-N in lands N K n accepted-K accepted-n (omega arith)
-
--- a refusal of the set-up is the draw's
-pub refused-draw : (N K n x : ℕ) (ws : List ℕ) → tooLong ws ≡ false → settled N K n ≡ refused x → draw (hypergeometric N K n) ws ≡ refused x
-unfolding settled hypergeometric
-refused-draw N K n x ws within e =
-    let first = exactly (trayRefusals N K n) (drawn (setUp N K n) 0) (λ m d. refused-not-drawn m (setUp N K n) 0 (sym d)) x .0 e in
-    parameters-next (hypergeometric N K n) ws within x first
 
 -- ---- a record that the set-up gave
 -- by this a caller that keeps a record meets what `sample_from` asks
@@ -85,25 +65,18 @@ module _ (h : Hypergeometric) (f : FromSetUp h) where
   unfolding settled
   from-given = drawn-exactly (trayRefusals (f .N) (f .K) (f .n)) (drawn (setUp (f .N) (f .K) (f .n)) 0) h 0 .0 (f .gives)
 
-  kept-none : NoneHolds (trayRefusals (f .N) (f .K) (f .n))
+  -- nothing of its tray is refused
+  pub kept-none : NoneHolds (trayRefusals (f .N) (f .K) (f .n))
   kept-none = from-given .0
 
-  kept-is : setUp (f .N) (f .K) (f .n) ≡ h
+  -- and it is the record of its tray
+  pub kept-is : setUp (f .N) (f .K) (f .n) ≡ h
   kept-is = let e = from-given .1 in cc
-
-  pub kept-small : Small (h .n1) (h .n2) (h .k)
-  kept-small = subst (λ (s : Hypergeometric). Small (s .n1) (s .n2) (s .k)) kept-is (set-up-small (f .N) (f .K) (f .n) kept-none)
 
   pub kept-lands : (x : ℕ) → x ≤ min (h .n1) (h .k) → Lands (h .sign) (h .offset) x
   kept-lands =
       subst (λ (s : Hypergeometric). (x : ℕ) → x ≤ min (s .n1) (s .k) → Lands (s .sign) (s .offset) x) kept-is
       (set-up-lands (f .N) (f .K) (f .n) kept-none)
-
-  -- a draw from it is the draw of its tray
-  pub kept-draw : (ws : List ℕ) → draw (fromKept h) ws ≡ draw (hypergeometric (f .N) (f .K) (f .n)) ws
-  unfolding hypergeometric
-  kept-draw ws =
-      ap (λ (g : Hypergeometric). draw (fromKept g) ws) (sym kept-is) ∙ sym (draw-passed (hypergeometric (f .N) (f .K) (f .n)) ws kept-none)
 
 -- equal readings, equal answers: so `set_up`'s contract leaves one
 pub one-set-up : (a b : SetUp) → setUpPaper a ≡ setUpPaper b → a ≡ b

@@ -10,10 +10,10 @@ use lib.Ieee.{Float, nan, inf, fin, Format, binary64, prec, emax, low, up, down,
 use lib.Ieee.Positive.{positive, positive-of-value}
 use Rattle.words.specs.Words.{ratio}
 use Rattle.hypergeometric.specs.Reduction.{populationCap, reduction}
-use Rattle.hypergeometric.specs.First.{asFloat, timesIn, overIn, atFactor, factors, fractionOfFactorials, firstProbability}
-use Rattle.hypergeometric.specs.Hypergeometric.{setUp, zeroOrNotFinite}
+use Rattle.first_probability.specs.First.{asFloat, timesIn, overIn, atFactor, factors, fractionOfFactorials, firstProbability}
+use Rattle.hypergeometric.specs.SetUp.{setUp, zeroOrNotFinite}
 use Rattle.hypergeometric.specs.RustTest.{rustRefuses}
-use Rattle.hypergeometric.proofs.Factors.{whole-exact}
+use Rattle.first_probability.proofs.Factors.{whole-exact}
 use Rattle.hypergeometric.proofs.Settling.{sizes}
 
 -- no NaN and no minus sign

@@ -8,9 +8,9 @@ use native.Mathlib.Omega.{arith}
 use borrow.Author.Count.{below-none, below-more}
 use lib.Ieee.{Float, binary64, sub, lt}
 use lib.Ieee.Exact.{HasValue}
-use Rattle.hypergeometric.specs.First.{asFloat}
+use Rattle.first_probability.specs.First.{asFloat}
 use Rattle.hypergeometric.specs.Inversion.{Small, nextP, walk, inverted}
-use Rattle.hypergeometric.proofs.Factors.{whole-exact}
+use Rattle.first_probability.proofs.Factors.{whole-exact}
 
 -- the two whole numbers of a step, as floats, are themselves to the last bit
 abbrev pub StepExact : ℕ → ℕ → ℕ → ℕ → Type 0

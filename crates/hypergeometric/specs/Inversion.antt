@@ -3,7 +3,7 @@ use Prim.Native.Nat.{ℕ, zero, suc, _+_, _-_, _*_, _≤_, min}
 use mathlib.Core.Bool.{Bool, true, false}
 use lib.Ieee.{Float, binary64, sub, mul, div, lt}
 use Rattle.hypergeometric.specs.Reduction.{populationCap}
-use Rattle.hypergeometric.specs.First.{asFloat}
+use Rattle.first_probability.specs.First.{asFloat}
 
 -- the probability of x + 1 from that of x: a product, then a quotient, each by one whole number
 unfoldable pub nextP : ℕ → ℕ → ℕ → ℕ → Float → Float

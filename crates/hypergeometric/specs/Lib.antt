@@ -1,5 +1,5 @@
 pub mod Reduction
-pub mod First
+pub mod SetUp
+pub mod RustTest
 pub mod Inversion
 pub mod Hypergeometric
-pub mod RustTest

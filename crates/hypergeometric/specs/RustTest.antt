@@ -5,7 +5,7 @@ use mathlib.Core.Bool.{Bool, true, false, not, _||_, cond}
 use lib.Ieee.{Float, nan, inf, fin, binary64, up, down, round, sub, mul, div, lt, le}
 use lib.Ieee.Scale.{finite}
 use Rattle.words.specs.Words.{ratio}
-use Rattle.hypergeometric.specs.First.{asFloat}
+use Rattle.first_probability.specs.First.{asFloat}
 
 -- f64::floor: the greatest whole number that is not above
 unfoldable pub floor : Float → Float

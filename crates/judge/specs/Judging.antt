@@ -4,6 +4,7 @@ use Prim.Native.Nat.{ℕ}
 use mathlib.Core.Bool.{Bool, false, cond, not, _&&_}
 use lib.Dec.{eqb, leb}
 use Rattle.words.specs.Outcome.{Outcome, drawn, refused}
+use Rattle.words.specs.Paper.{told}
 use Rattle.kinds.specs.declared.Request.{Request}
 use Rattle.kinds.specs.Kinds.{kindNumber, partsOf}
 use Rattle.hypergeometric.specs.Reduction.{least, most}
@@ -28,7 +29,7 @@ rustDid act c u =
 
 -- the enum as an outcome
 abbrev pub said : Said → Outcome ℕ
-said (Drew c u) = drawn c u
+said (Drew d) = told d
 said (Stopped n) = refused n
 
 -- the same count and words used, or the same refusal

@@ -2,15 +2,16 @@
 use kinds::Request;
 use kinds::parts_of;
 use words::Answer;
+use words::Draw;
 use words::number;
 ghost use mathlib.Core.Path.{_≡_};
-ghost use Rattle.words.specs.Paper.{paper};
+ghost use Rattle.words.specs.Paper.{paper, told};
 ghost use Rattle.judge.specs.Judging.{rustDid, same, outsideTray, isOutside, byRefusal, apart, judged, asMarked};
 ghost use Rattle.judge.specs.Judging as rules;
 
 // What the Rust did: it drew, or stopped where a draw here is refused by this number.
 pub enum Said {
-    Drew { count: u64, used: usize },
+    Drew(Draw),
     Stopped { number: u32 },
 }
 
@@ -26,7 +27,7 @@ pub fn rust_did(act: u64, count: u64, used: usize) -> Said
     ensures { λ r. ⌜ rules.said r ≡ rustDid act count used ⌝ }
 {
     match act {
-        0 => Said::Drew { count, used },
+        0 => Said::Drew(Draw { count, used }),
         1 => Said::Stopped { number: 10 },
         2 => Said::Stopped { number: 3 },
         3 => Said::Stopped { number: 4 },
@@ -76,18 +77,22 @@ fn is_same(here: Answer, rust: Said) -> bool
     ensures { λ r. ⌜ r ≡ same (paper here) (rules.said rust) ⌝ }
 {
     match here {
-        Answer::Drawn { count, used } => match rust {
-            Said::Drew {
-                count: drawn,
-                used: read,
-            } => count == drawn && used == read,
+        Answer::Drawn(drawn) => match rust {
+            Said::Drew(drew) => is_same_draw(drawn, drew),
             Said::Stopped { number: _ } => false,
         },
         Answer::Refused(refusal) => match rust {
-            Said::Drew { count: _, used: _ } => false,
+            Said::Drew(_) => false,
             Said::Stopped { number: stopped } => number(refusal) == stopped,
         },
     }
+}
+
+// The same count, from as many words.
+fn is_same_draw(drawn: Draw, drew: Draw) -> bool
+    ensures { λ r. ⌜ r ≡ same (told drawn) (told drew) ⌝ }
+{
+    drawn.count == drew.count && drawn.used == drew.used
 }
 
 // Which entry lists answers that aren't the same.
@@ -96,13 +101,10 @@ fn set_apart(request: Request, here: Answer, rust: Said) -> Verdict
 {
     match here {
         Answer::Refused(refusal) => by_refusal(number(refusal)),
-        Answer::Drawn { count: _, used } => match rust {
+        Answer::Drawn(drawn) => match rust {
             Said::Stopped { number: _ } => Verdict::Differs,
-            Said::Drew {
-                count: drawn,
-                used: read,
-            } => {
-                if is_outside(request, drawn) && used == read {
+            Said::Drew(drew) => {
+                if is_outside(request, drew.count) && drawn.used == drew.used {
                     Verdict::Listed { entry: 1 }
                 } else {
                     Verdict::Differs

@@ -15,7 +15,7 @@ use Rattle.kinds.specs.declared.Parts.{Parts}
 use Rattle.kinds.specs.declared.Request.{Request}
 use Rattle.kinds.specs.declared.Row.the-variants.{Of, Unknown}
 use Rattle.kinds.specs.declared.Request.the-variants.{Hypergeometric, Poisson, Geometric, StandardGeometric}
-use Rattle.kinds.specs.Kinds.{Kind, table, numbered, kindOf, lengthIn, parametersIn, requestOf, partsOf, kindNumber, three, parametersOf, lengthOf, Alike, sameParts, sameRequest, row, rowOf}
+use Rattle.kinds.specs.Kinds.{fixedLength, Kind, table, numbered, kindOf, lengthIn, parametersIn, requestOf, partsOf, kindNumber, three, parametersOf, lengthOf, Alike, sameParts, sameRequest, row, rowOf}
 use Rattle.kinds.proofs.Table.{row-none, Each, found, Listed, listed, by-kind, shape-length, known}
 
 -- a request is the one of its kind and parameters: a line a kind
@@ -73,8 +73,8 @@ module _ (r : Request) where
   request-shape = rw (request-kind r .1) (length-take-le (own .parameters) (three (partsOf r)) (omega (arith, is-listed .few)))
 
   -- its entry's length by them
-  pub request-length : lengthOf r ≡ 24 + 8 * length (parametersOf r)
-  request-length = shape-length (kindNumber r) request-known ∙ ap (λ (n : ℕ). 24 + 8 * n) (sym request-shape)
+  pub request-length : lengthOf r ≡ fixedLength + 8 * length (parametersOf r)
+  request-length = shape-length (kindNumber r) request-known ∙ ap (λ (n : ℕ). fixedLength + 8 * n) (sym request-shape)
 
   -- its kind fits the two bytes that hold it
   pub kind-fits : kindNumber r < 256 ^ 2

@@ -10,7 +10,7 @@ use borrow.Author.Needs.{needs}
 use borrow.Author.Tests.{ne-eqb, eqb-true, ltb-true, leb-true}
 use Rattle.kinds.specs.declared.Request.{Request}
 use Rattle.kinds.specs.declared.Row.the-variants.{Of, Unknown}
-use Rattle.kinds.specs.Kinds.{Kind, table, numbered, kindOf, lengthIn, parametersIn, row, rowOf}
+use Rattle.kinds.specs.Kinds.{fixedLength, Kind, table, numbered, kindOf, lengthIn, parametersIn, row, rowOf}
 
 -- ---- what a row tells
 
@@ -42,9 +42,9 @@ row-unlisted k a b c h = rw (unnumbered k table h)
 
 -- ---- the test
 
--- an entry is 24 bytes and 8 for each parameter, of which there are at most three; its number fits the two bytes that hold it
+-- an entry is its fixed fields and 8 bytes for each parameter, of which there are at most three; its number fits the two bytes that hold it
 isRegular : Kind → Bool
-isRegular x = eqb (x .length) (24 + 8 * x .parameters) && leb (x .parameters) 3 && ltb (x .number) 65536
+isRegular x = eqb (x .length) (fixedLength + 8 * x .parameters) && leb (x .parameters) 3 && ltb (x .number) 65536
 
 -- the table, by one computation
 regular : Each (λ x. isRegular x ≡ true) table
@@ -56,7 +56,7 @@ regular = search needs
 -- the kind x is the one of the table with the number k
 pub record Listed (k : ℕ) (x : Kind) : Type 0 where
   pub number : x .number ≡ k
-  pub length : x .length ≡ 24 + 8 * x .parameters
+  pub length : x .length ≡ fixedLength + 8 * x .parameters
   pub few : x .parameters ≤ 3
   pub small : k < 65536
 
@@ -77,11 +77,11 @@ pub listed : (k : ℕ) (x : Kind) → kindOf k ≡ some x → Listed k x
 unfolding kindOf isRegular
 listed k x e =
     let h = found (λ y. isRegular y ≡ true) table k x regular e in
-    let t = and-eq-true-iff (eqb (x .length) (24 + 8 * x .parameters) && leb (x .parameters) 3) (ltb (x .number) 65536) .0 (h .1) in
-    let u = and-eq-true-iff (eqb (x .length) (24 + 8 * x .parameters)) (leb (x .parameters) 3) .0 (t .0) in
+    let t = and-eq-true-iff (eqb (x .length) (fixedLength + 8 * x .parameters) && leb (x .parameters) 3) (ltb (x .number) 65536) .0 (h .1) in
+    let u = and-eq-true-iff (eqb (x .length) (fixedLength + 8 * x .parameters)) (leb (x .parameters) 3) .0 (t .0) in
     record {
       number = h .0;
-      length = eqb-true (x .length) (24 + 8 * x .parameters) (u .0);
+      length = eqb-true (x .length) (fixedLength + 8 * x .parameters) (u .0);
       few = leb-true (x .parameters) 3 (u .1);
       small = omega (arith, h .0, ltb-true (x .number) 65536 (t .1));
     }
@@ -96,10 +96,10 @@ by-kind P k p q = go (kindOf k) refl
     go none e = p
     go (some x) e = q x e (listed k x e)
 
--- a kind's entry is 24 bytes, and 8 for each parameter
-pub shape-length : (k : ℕ) → 0 < lengthIn (kindOf k) → lengthIn (kindOf k) ≡ 24 + 8 * parametersIn (kindOf k)
+-- a kind's entry is its fixed fields, and 8 bytes for each parameter
+pub shape-length : (k : ℕ) → 0 < lengthIn (kindOf k) → lengthIn (kindOf k) ≡ fixedLength + 8 * parametersIn (kindOf k)
 shape-length k =
-    by-kind (λ o. 0 < lengthIn o → lengthIn o ≡ 24 + 8 * parametersIn o) k (λ h. absurd (omega arith)) (λ x e l h. l .length)
+    by-kind (λ o. 0 < lengthIn o → lengthIn o ≡ fixedLength + 8 * parametersIn o) k (λ h. absurd (omega arith)) (λ x e l h. l .length)
 
 -- every length fits the two bytes that hold it
 pub length-small : (k : ℕ) → lengthIn (kindOf k) < 65536

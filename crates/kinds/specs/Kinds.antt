@@ -12,6 +12,10 @@ use Rattle.kinds.specs.declared.Request.the-variants.{Hypergeometric, Po
 use Rattle.kinds.specs.declared.Row.{Row}
 use Rattle.kinds.specs.declared.Row.the-variants.{Of, Unknown}
 
+-- every entry begins with so many bytes, its fixed fields; its parameters stand after them, 8 bytes each
+abbrev pub fixedLength : ℕ
+fixedLength = 24
+
 -- ---- from a number
 
 -- a kind: its number, the length of its entry, how many parameters it has, and the request that they make

@@ -7,9 +7,10 @@ use lib.ListN.{length, take, drop, replicate, length-append, length-replicate, r
 use lib.Seq.{drop-at, take-at, sets, sets-eq, drop-append-add}
 use Rattle.bytes_le.specs.Zeros.{wiped}
 use Rattle.kinds.specs.Kinds.{lengthOf}
-use Rattle.layout.specs.Entry.{Entry, entryBytes}
+use Rattle.entry.specs.declared.Entry.{Entry}
+use Rattle.entry.specs.Entry.{entryBytes}
 use Rattle.layout.specs.Book.{entriesBytes, lengthAll, usedAll, encode}
-use Rattle.layout.proofs.Entries.{Fits, length-entry}
+use Rattle.entry.proofs.Entries.{Fits, length-entry}
 use Rattle.layout.proofs.Decoding.{Chain, length-entries, zeros-equal}
 use Rattle.layout.proofs.Positions.{bytes-append, length-all-append, length-one}
 
@@ -46,6 +47,12 @@ append-encode n es e h =
     bytes-append es (e ∷ []) ∙ unfold entriesBytes in ap (λ (l : List ℕ). entriesBytes es ++ l) (append-nil (entryBytes e)) in
     sets-eq (entryBytes e) (entriesBytes es ++ zs) S fits ∙ rw (tk, dr, one)
 
+-- zeros after zeros
+more-zeros : (l : List ℕ) (m k n : ℕ) → m + k ≡ n → (l ++ replicate m 0) ++ replicate k 0 ≡ l ++ replicate n 0
+more-zeros l m k n e =
+    append-assoc l (replicate m 0) (replicate k 0)
+    ∙ ap (λ (z : List ℕ). l ++ z) (replicate-append-replicate m k 0 ∙ zeros-equal (m + k) n e)
+
 -- a strike's bytes: with the last entries wiped, those before them are left
 pub wiped-encode : (n : ℕ) (xs ys : List Entry) → lengthAll (xs ++ ys) ≤ n
     → wiped (lengthAll xs) (lengthAll (xs ++ ys)) (encode n (xs ++ ys)) ≡ encode n xs
@@ -60,6 +67,4 @@ wiped-encode n xs ys h =
     ∙ take-at (entriesBytes xs) (entriesBytes ys ++ zs) (lengthAll xs) (length-entries xs) in
     let dr : drop S (entriesBytes (xs ++ ys) ++ zs) ≡ zs = drop-at (entriesBytes (xs ++ ys)) zs S (length-entries (xs ++ ys)) in
     let sum : gap + (n - S) ≡ n - lengthAll xs = omega (arith, length-all-append xs ys) in
-    rw (tk, dr)
-    (append-assoc (entriesBytes xs) (replicate gap 0) zs
-    ∙ ap (λ (l : List ℕ). entriesBytes xs ++ l) (replicate-append-replicate gap (n - S) 0 ∙ zeros-equal (gap + (n - S)) (n - lengthAll xs) sum))
+    rw (tk, dr) (more-zeros (entriesBytes xs) gap (n - S) (n - lengthAll xs) sum)

@@ -2,7 +2,7 @@
 use mathlib.Core.Path.{_≡_, refl, sym, ap, ap₂, _∙_}
 use mathlib.Core.Bool.{Bool, true, false, cond, _&&_, _||_, or-true, and-eq-true-iff}
 use mathlib.Core.List.{List, [], _∷_, _++_, append-assoc}
-use mathlib.Core.Option.{Option, none, some, Option·map}
+use mathlib.Core.Option.{Option, none, some, Option·map, Option·getD}
 use Prim.Native.Nat.{ℕ, zero, suc, _+_, _*_, _-_, _<_, _≤_}
 use native.Mathlib.Nat.{le-of-suc-le-suc, not-suc-le-zero}
 use native.Mathlib.Omega.{arith}
@@ -15,11 +15,12 @@ use Rattle.bytes_le.proofs.Zeros.{zeros-are, are-zeros}
 use Rattle.layout.specs.declared.Head.{Head}
 use Rattle.layout.specs.declared.Head.the-variants.{End, Damage, Next}
 use Rattle.kinds.specs.declared.Request.{Request}
-use Rattle.kinds.specs.Kinds.{kindOf, lengthIn, lengthOf}
+use Rattle.kinds.specs.Kinds.{fixedLength, kindOf, lengthIn, lengthOf}
 use Rattle.kinds.proofs.Requests.{request-length}
-use Rattle.layout.specs.Entry.{Entry, entryBytes, lengthAt, kindAt, serialAt, placeAt, usedAt, requestAt, entryOf, entryAt}
-use Rattle.layout.specs.Book.{entriesBytes, lengthAll, usedAll, encode, isEnd, isFitting, head, onHead, isClosed, joined, decodeFrom, decode}
-use Rattle.layout.proofs.Entries.{Fits, length-entry, entry-read, length-read, kind-read, serial-read, place-read, used-read, rest-read, request-there, entry-there, entry-fits, entry-length, entry-written}
+use Rattle.entry.specs.declared.Entry.{Entry}
+use Rattle.entry.specs.Entry.{entryBytes, lengthAt, kindAt, serialAt, placeAt, usedAt, requestAt, entryOf}
+use Rattle.layout.specs.Book.{entriesBytes, lengthAll, usedAll, encode, isEnd, isFitting, head, onHead, isClosed, decodeFrom, decode, isNone}
+use Rattle.entry.proofs.Entries.{Fits, length-entry, entry-read, length-read, kind-read, serial-read, place-read, used-read, rest-read, request-there, entry-there, entry-fits, entry-length, entry-written}
 
 -- a test's two cases, with what it says
 pub by-test {ℓ κ} : {X : Type ℓ} (P : X → Type κ) (b : Bool) {x y : X} → (b ≡ true → P x) → (b ≡ false → P y) → P (cond b x y)
@@ -86,14 +87,14 @@ module _ (s p : ℕ) (l : List ℕ) where
   fitting-known f = omega (arith, f .nonzero, f .sized)
 
   -- with a request, whose length is the one that stands there
-  pub fitting-request : Fitting s p l → (q : Request) × (requestAt l 0 ≡ some q)
-  fitting-request f = request-there l (fitting-known f)
+  pub fitting-request : Fitting s p l → (q : Request) × (requestAt fixedLength l 0 ≡ some q)
+  fitting-request f = request-there fixedLength l 0 (fitting-known f)
 
-  pub fitting-size : Bytes l → Fitting s p l → (q : Request) → requestAt l 0 ≡ some q → lengthOf q ≡ lengthAt l 0
+  pub fitting-size : Bytes l → Fitting s p l → (q : Request) → requestAt fixedLength l 0 ≡ some q → lengthOf q ≡ lengthAt l 0
   fitting-size by f q asked = entry-length l by q asked ∙ sym (f .sized)
 
--- every entry has 24 bytes or more
-pub length-least : (e : Entry) → 24 ≤ lengthOf (e .request)
+-- every entry has its fixed fields
+pub length-least : (e : Entry) → fixedLength ≤ lengthOf (e .request)
 length-least e = omega (arith, request-length (e .request))
 
 entry-fitting : (e : Entry) (r : List ℕ) → Fits e → Fitting (e .serial) (e .place) (entryBytes e ++ r)
@@ -138,7 +139,7 @@ length-entries [] = refl
 length-entries (e ∷ es) = simp length-append (omega (arith, length-entry e, length-entries es))
 
 -- so many entries take so many bytes
-pub many : (es : List Entry) → 24 * length es ≤ lengthAll es
+pub many : (es : List Entry) → fixedLength * length es ≤ lengthAll es
 unfolding lengthAll
 many [] = omega arith
 many (e ∷ es) = omega (arith, length-least e, many es)
@@ -190,7 +191,7 @@ ended t s p l es =
     rw e (nothing-written t s p l (leb-true p t (z .0)) (z .1)))
     (λ _ q. let z : _≡_ {A = ℕ} 0 1 = cc in absurd (omega arith))
 
-one-more : (t s p : ℕ) (l : List ℕ) (fs : List Entry) → Bytes l → Fitting s p l → (q : Request) → requestAt l 0 ≡ some q
+one-more : (t s p : ℕ) (l : List ℕ) (fs : List Entry) → Bytes l → Fitting s p l → (q : Request) → requestAt fixedLength l 0 ≡ some q
     → Written t (s + 1) (p + usedAt l 0) (drop (lengthAt l 0) l) fs → Written t s p l (entryOf q l 0 ∷ fs)
 unfolding lengthAll usedAll entriesBytes
 one-more t s p l fs by ft q asked wr =
@@ -234,3 +235,8 @@ module _ (t : ℕ) (b : List ℕ) (es : List Entry) (by : Bytes b) (so : decode 
   pub decode-encodes : b ≡ encode (length b) es
   unfolding encode
   decode-encodes = written .bytes
+
+-- a book that is not damaged has entries
+pub is-some : (o : Option (List Entry)) → isNone o ≡ false → o ≡ some (Option·getD o [])
+is-some none e = let z : _≡_ {A = ℕ} 0 1 = cc in absurd (omega arith)
+is-some (some es) e = refl

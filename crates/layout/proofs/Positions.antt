@@ -9,12 +9,14 @@ use lib.ListN.{length, getD, take, drop, replicate, take-append-drop}
 use lib.Seq.{split-at, drop-drop, drop-at, take-suc, take-length, length-take-le}
 use Rattle.bytes_le.specs.LittleEndian.{spelled}
 use Rattle.bytes_le.proofs.Numbers.{Bytes}
-use Rattle.kinds.specs.Kinds.{kindOf, lengthIn, kindNumber, lengthOf}
-use Rattle.layout.specs.Entry.{Entry, entryBytes, lengthAt, kindAt, serialAt, placeAt, usedAt, entryOf, entryAt}
+use Rattle.kinds.specs.Kinds.{fixedLength, kindOf, lengthIn, kindNumber, lengthOf}
+use Rattle.entry.specs.declared.Entry.{Entry}
+use Rattle.entry.specs.Entry.{entryBytes, lengthAt, kindAt, serialAt, placeAt, usedAt, entryOf, entryAt}
 use Rattle.layout.specs.Book.{entriesBytes, lengthAll, usedAll, decode}
 use Rattle.layout.specs.Sound.{offset, usedBefore}
-use Rattle.layout.specs.Places.{HasEntry, Reaches}
-use Rattle.layout.proofs.Entries.{Fits, entry-read, length-read, entry-tells, entry-kind}
+use Rattle.entry.specs.Places.{HasEntry}
+use Rattle.layout.specs.Places.{Reaches}
+use Rattle.entry.proofs.Entries.{Fits, entry-read, length-read, entry-tells, entry-kind}
 use Rattle.layout.proofs.Decoding.{Chain, Written, written, length-least, length-entries}
 
 -- ---- entries one after another
@@ -58,7 +60,7 @@ chain-mid (x ∷ xs) ys e s p c =
 -- the entry at i is the one at the front of what is left from i on
 pub entry-at : (b : List ℕ) (i : ℕ) → entryAt b i ≡ entryAt (drop i b) 0
 unfolding entryAt
-entry-at b i = rw (drop-drop 2 i b, drop-drop 4 i b, drop-drop 8 i b, drop-drop 12 i b, drop-drop 16 i b, drop-drop 24 i b)
+entry-at b i = rw (drop-drop 2 i b, drop-drop 4 i b, drop-drop 8 i b, drop-drop 12 i b, drop-drop 16 i b, drop-drop fixedLength i b)
 
 -- ---- the entries of a sound book
 
@@ -163,10 +165,14 @@ module _ (t : ℕ) (b : List ℕ) (es : List Entry) (by : Bytes b) (so : decode 
     pub lies-used : usedAll (take (suc i) es) ≡ usedAll (take i es) + usedAt b (offset b i)
     lies-used = used-here i h ∙ ap (λ (k : ℕ). usedAll (take i es) + k) (ap (λ (x : Entry). x .used) lies-fields)
 
+    -- its numbers fit their fields
+    pub lies-fits : Fits (getD es i d)
+    lies-fits = mid i h .0
+
     -- its place is on the tape
-    pub lies-on-tape : placeAt b (offset b i) ≤ t
+    pub lies-on-tape : getD es i d .place ≤ t
     unfolding usedAll
-    lies-on-tape = omega (arith, lies-place, all .tape, ap usedAll (take-append-drop i es), used-all-append (take i es) (drop i es))
+    lies-on-tape = omega (arith, mid i h .1 .1, all .tape, ap usedAll (take-append-drop i es), used-all-append (take i es) (drop i es))
 
   pub lies-used-before : (i : ℕ) → i ≤ length es → usedBefore b i ≡ usedAll (take i es)
   unfolding usedBefore usedAll

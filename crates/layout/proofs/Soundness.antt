@@ -15,21 +15,17 @@ use borrow.Author.Tests.{lt-ltb, le-leb, eq-eqb}
 use Rattle.bytes_le.specs.LittleEndian.{spelled}
 use Rattle.bytes_le.specs.Zeros.{allZero}
 use Rattle.bytes_le.proofs.Numbers.{Bytes, spelled-zeros}
-use Rattle.kinds.specs.declared.Request.{Request}
-use Rattle.kinds.specs.declared.Request.the-variants.{StandardGeometric}
-use Rattle.kinds.specs.Kinds.{kindOf, lengthIn}
+use Rattle.kinds.specs.Kinds.{fixedLength, kindOf, lengthIn}
 use Rattle.kinds.proofs.Table.{shape-length}
-use Rattle.layout.specs.Entry.{Entry, booking, lengthAt, kindAt, usedAt, requestAt, entryOf, entryAt}
-use Rattle.layout.specs.Book.{entriesBytes, lengthAll, usedAll, isEnd, joined, decodeFrom, decode}
+use Rattle.entry.specs.declared.Entry.{Entry}
+use Rattle.entry.specs.Entry.{blank, lengthAt, kindAt, usedAt, entryOf}
+use Rattle.layout.specs.Book.{entriesBytes, lengthAll, usedAll, isEnd, decodeFrom, decode}
 use Rattle.layout.specs.Sound.{offset, usedBefore, EndsAt, Sound}
-use Rattle.layout.proofs.Entries.{entry-there}
+use Rattle.entry.proofs.Entries.{entry-there}
 use Rattle.layout.proofs.Decoding.{Written, written, Fitting, head-end, head-fitting, fitting-request, length-least, length-entries}
 use Rattle.layout.proofs.Positions.{lies-end, lies-length, lies-kind, lies-within, lies-serial, lies-place, lies-used-before}
 
 -- ---- what decodes is sound
-
-none-booked : Entry
-none-booked = booking StandardGeometric 0 0 0 0
 
 module _ (t : ℕ) (b : List ℕ) (es : List Entry) (by : Bytes b) (so : decode t b ≡ some es) (d : Entry) where
   wr : Written t 1 0 b es
@@ -72,7 +68,7 @@ all-zero [] h = refl
 all-zero (x ∷ xs) h = rw (eq-eqb x 0 (h 0 (zero-lt-suc (length xs)))) (all-zero xs (λ i l. h (suc i) (omega arith)))
 
 module _ (t : ℕ) (b : List ℕ) (so : Sound t b) where
-  long : (i : ℕ) → i < so .number → 24 ≤ lengthAt b (offset b i)
+  long : (i : ℕ) → i < so .number → fixedLength ≤ lengthAt b (offset b i)
   long i h =
       let f = so .fits-kind i h in
       let z : lengthAt b (offset b i) ≡ 0 → ⊥ = λ e. so .begins i h (inr e) in
@@ -80,7 +76,7 @@ module _ (t : ℕ) (b : List ℕ) (so : Sound t b) where
       omega (arith, shape-length (kindAt b (offset b i)) k)
 
   -- so many entries reach so far, within the book
-  far : (i : ℕ) → i ≤ so .number → (24 * i ≤ offset b i) × (offset b i ≤ length b)
+  far : (i : ℕ) → i ≤ so .number → (fixedLength * i ≤ offset b i) × (offset b i ≤ length b)
   unfolding offset
   far zero h = (omega arith, omega arith)
   far (suc i) h =
@@ -156,4 +152,4 @@ module _ (t : ℕ) (b : List ℕ) (so : Sound t b) where
 
 -- both ways
 pub sound-exactly : (t : ℕ) (b : List ℕ) → Bytes b → Sound t b ↔ ((es : List Entry) × (decode t b ≡ some es))
-sound-exactly t b by = (sound-decodes t b, λ x. decodes-sound t b (x .0) by (x .1) none-booked)
+sound-exactly t b by = (sound-decodes t b, λ x. decodes-sound t b (x .0) by (x .1) blank)

@@ -4,6 +4,7 @@ use mathlib.Core.Bool.{Bool, true, false, cond, and-false}
 use mathlib.Core.List.{List, [], _∷_}
 use mathlib.Core.Option.{Option, none, some, Option·map}
 use Prim.Native.Nat.{ℕ, suc, _+_, _-_, _^_, _<_, _≤_}
+use native.Mathlib.Nat.{zero-add}
 use native.Mathlib.Numerals.{add-one}
 use native.Mathlib.Omega.{arith}
 use lib.ListN.{length, drop, length-drop}
@@ -12,17 +13,20 @@ use borrow.Author.Tests.{lt-ltb, le-ltb, le-leb, lt-leb, eq-eqb, ne-eqb}
 use Rattle.bytes_le.specs.LittleEndian.{spelled}
 use Rattle.bytes_le.specs.Zeros.{allZero}
 use Rattle.bytes_le.proofs.Numbers.{Bytes, bytes-drop, spelled-lt}
+use Rattle.layout.specs.declared.Head.{Head}
 use Rattle.layout.specs.declared.Head.the-variants.{End, Damage, Next}
 use Rattle.layout.specs.declared.Walked.{Walked}
 use Rattle.layout.specs.declared.Walked.the-variants.{Damaged, Sound}
 use Rattle.kinds.specs.declared.Request.{Request}
-use Rattle.kinds.specs.Kinds.{kindOf, lengthIn, lengthOf}
+use Rattle.kinds.specs.Kinds.{fixedLength, kindOf, lengthIn, lengthOf}
 use Rattle.kinds.proofs.Table.{shape-length}
-use Rattle.layout.specs.Entry.{Entry, lengthAt, kindAt, serialAt, placeAt, usedAt, requestAt, entryOf, entryAt}
-use Rattle.layout.specs.Book.{lengthAll, usedAll, head, isClosed, joined, decodeFrom, decode}
+use Rattle.entry.specs.declared.Entry.{Entry}
+use Rattle.layout.specs.declared.Standing.{Standing}
+use Rattle.entry.specs.Entry.{lengthAt, kindAt, serialAt, placeAt, usedAt, requestAt, entryOf}
+use Rattle.layout.specs.Book.{lengthAll, usedAll, head, isClosed, decodeFrom, decode}
 use Rattle.layout.specs.Sound.{offset}
-use Rattle.layout.specs.Walk.{telling, walked}
-use Rattle.layout.proofs.Entries.{entry-there}
+use Rattle.layout.specs.Walk.{stands, standing, telling, walked}
+use Rattle.entry.proofs.Entries.{entry-there}
 use Rattle.layout.proofs.Decoding.{head-next, fitting-known, fitting-request, fitting-size}
 
 -- ---- the head at `at`, by what the code reads: `left` bytes are left, and n is the length there
@@ -53,8 +57,8 @@ module _ (b : List ℕ) (at s p left n : ℕ) (el : left ≡ length b - at) (en 
       unfolding head
       head-other m e f = rw (← is-left, le-ltb left 2 h, ← en, ne-eqb n 0 z, is-kind, ← e, ne-eqb n m f)
 
-      -- no entry is shorter than 24
-      pub head-tiny : n < 24 → Damage ≡ head s p (drop at b)
+      -- no entry is shorter than its fixed fields
+      pub head-tiny : n < fixedLength → Damage ≡ head s p (drop at b)
       head-tiny t = head-other (lengthIn (kindOf kind)) refl (λ e. omega (arith, shape-length kind (omega (arith, z))))
 
       module _ (m : ℕ) (e : m ≡ lengthIn (kindOf kind)) (f : n ≡ m) (serial : ℕ) (es : serial ≡ serialAt b at) where
@@ -90,45 +94,62 @@ closed-by t p l z x h e = rw (le-leb p t h, e)
 
 -- ---- the walk, from an entry on
 
+-- how a book stands with the entries es after n others that end at i and at the place p
+abbrev onward : ℕ → ℕ → ℕ → Option (List Entry) → Walked
+onward n i p none = Damaged
+onward n i p (some es) = Sound (stands (n + length es) (i + lengthAll es) (p + usedAll es))
+
 -- what is left to tell: after n entries that end at `at` and at the place p
 abbrev pub rest : ℕ → List ℕ → ℕ → ℕ → ℕ → Walked
-rest t b at n p = telling n at p (decodeFrom (suc (length b - n)) t (n + 1) p (drop at b))
+rest t b at n p = onward n at p (decodeFrom (suc (length b - n)) t (n + 1) p (drop at b))
 
 pub walk-start : (t : ℕ) (b : List ℕ) → rest t b 0 0 0 ≡ walked t b
 unfolding walked decode
-walk-start t b = let e : length b - 0 ≡ length b = omega arith in rw e
+walk-start t b = let e : length b - 0 ≡ length b = omega arith in rw e (go (decode t b))
+  where
+    go : (o : Option (List Entry)) → onward 0 0 0 o ≡ telling o
+    go none = refl
+    go (some es) = λ i. Sound (stands (zero-add (length es) i) (zero-add (lengthAll es) i) (zero-add (usedAll es) i))
 
-telling-more : (n at p : ℕ) (e : Entry) (o : Option (List Entry)) → telling n at p (Option·map (λ (es : List Entry). e ∷ es) o) ≡ telling (n + 1) (at + lengthOf (e .request)) (p + e .used) o
+onward-more : (n at p : ℕ) (e : Entry) (o : Option (List Entry)) → onward n at p (Option·map (λ (es : List Entry). e ∷ es) o) ≡ onward (n + 1) (at + lengthOf (e .request)) (p + e .used) o
 unfolding lengthAll usedAll
-telling-more n at p e none = refl
-telling-more n at p e (some es) =
+onward-more n at p e none = refl
+onward-more n at p e (some es) =
     let a : n + suc (length es) ≡ n + 1 + length es = omega arith in
     let b : at + (lengthOf (e .request) + lengthAll es) ≡ at + lengthOf (e .request) + lengthAll es = omega arith in
     let c : p + (e .used + usedAll es) ≡ p + e .used + usedAll es = omega arith in
-    λ i. Sound (a i) (b i) (c i)
+    λ i. Sound (stands (a i) (b i) (c i))
 
-telling-end : (n at p : ℕ) (d : Bool) → telling n at p (cond d (some []) none) ≡ cond d (Sound n at p) Damaged
+onward-end : (n at p : ℕ) (d : Bool) → onward n at p (cond d (some []) none) ≡ cond d (Sound (stands n at p)) Damaged
 unfolding lengthAll usedAll
-telling-end n at p true =
+onward-end n at p true =
     let a : n + 0 ≡ n = omega arith in
     let b : at + 0 ≡ at = omega arith in
     let c : p + 0 ≡ p = omega arith in
-    λ i. Sound (a i) (b i) (c i)
-telling-end n at p false = refl
+    λ i. Sound (stands (a i) (b i) (c i))
+onward-end n at p false = refl
 
 module _ (t : ℕ) (b : List ℕ) (at n p : ℕ) where
-  pub rest-end : End ≡ head (n + 1) p (drop at b) → rest t b at n p ≡ cond (isClosed t p (drop at b)) (Sound n at p) Damaged
+  rest-end : End ≡ head (n + 1) p (drop at b) → rest t b at n p ≡ cond (isClosed t p (drop at b)) (Sound (stands n at p)) Damaged
   unfolding decodeFrom
-  rest-end h = rw (← h) (telling-end n at p (isClosed t p (drop at b)))
+  rest-end h = rw (← h) (onward-end n at p (isClosed t p (drop at b)))
 
-  pub rest-damage : Damage ≡ head (n + 1) p (drop at b) → rest t b at n p ≡ Damaged
+  rest-damage : Damage ≡ head (n + 1) p (drop at b) → rest t b at n p ≡ Damaged
   unfolding decodeFrom
   rest-damage h = rw (← h)
+
+  -- so what was answered there is what the whole walk tells, where it is what is left to tell
+  module _ (left : rest t b at n p ≡ walked t b) where
+    pub walk-ended : (x : Head) → x ≡ End → x ≡ head (n + 1) p (drop at b) → (r : Walked) → r ≡ cond (isClosed t p (drop at b)) (Sound (stands n at p)) Damaged → r ≡ walked t b
+    walk-ended x is h r e = e ∙ sym (rest-end (sym is ∙ h)) ∙ left
+
+    pub walk-damaged : (x : Head) → x ≡ Damage → x ≡ head (n + 1) p (drop at b) → Damaged ≡ walked t b
+    walk-damaged x is h = sym (rest-damage (sym is ∙ h)) ∙ left
 
   -- the walk goes on after an entry
   module _ (h : Next ≡ head (n + 1) p (drop at b)) where
     -- it lies within the book
-    pub next-room : (24 ≤ lengthAt b at) × (lengthAt b at ≤ length b - at)
+    pub next-room : (fixedLength ≤ lengthAt b at) × (lengthAt b at ≤ length b - at)
     next-room =
         let f = head-next (n + 1) p (drop at b) (sym h) in
         let k = shape-length (kindAt (drop at b) 0) (fitting-known (n + 1) p (drop at b) f) in
@@ -142,7 +163,7 @@ module _ (t : ℕ) (b : List ℕ) (at n p : ℕ) where
         omega (arith, f .placed)
 
     module _ (by : Bytes b) (x u : ℕ) (ex : x ≡ lengthAt b at) (eu : u ≡ usedAt b at) (l : n < length b) where
-      abbrev asked : (q : Request) × (requestAt (drop at b) 0 ≡ some q)
+      abbrev asked : (q : Request) × (requestAt fixedLength (drop at b) 0 ≡ some q)
       asked = fitting-request (n + 1) p (drop at b) (head-next (n + 1) p (drop at b) (sym h))
 
       used-is : usedAt (drop at b) 0 ≡ u
@@ -152,17 +173,17 @@ module _ (t : ℕ) (b : List ℕ) (at n p : ℕ) where
       length-is =
           fitting-size (n + 1) p (drop at b) (bytes-drop b at by) (head-next (n + 1) p (drop at b) (sym h)) (asked .0) (asked .1) ∙ sym ex
 
-      one-turn : telling n at p (decodeFrom (suc (length b - n)) t (n + 1) p (drop at b))
-          ≡ telling (n + 1) (at + x) (p + u) (decodeFrom (length b - n) t (n + 1 + 1) (p + u) (drop x (drop at b)))
+      one-turn : onward n at p (decodeFrom (suc (length b - n)) t (n + 1) p (drop at b))
+          ≡ onward (n + 1) (at + x) (p + u) (decodeFrom (length b - n) t (n + 1 + 1) (p + u) (drop x (drop at b)))
       unfolding decodeFrom
       one-turn =
-          rw (← h, ← ex, entry-there (drop at b) 0 (asked .0) (asked .1), telling-more n at p (entryOf (asked .0) (drop at b) 0), used-is, length-is)
+          rw (← h, ← ex, entry-there (drop at b) 0 (asked .0) (asked .1), onward-more n at p (entryOf (asked .0) (drop at b) 0), used-is, length-is)
 
       pub rest-next : rest t b at n p ≡ rest t b (at + x) (n + 1) (p + u)
       rest-next =
           let fuel : length b - n ≡ suc (length b - (n + 1)) = omega arith in
           one-turn
-          ∙ ap₂ (λ (k : ℕ) (d : List ℕ). telling (n + 1) (at + x) (p + u) (decodeFrom k t (n + 1 + 1) (p + u) d)) fuel (drop-drop x at b)
+          ∙ ap₂ (λ (k : ℕ) (d : List ℕ). onward (n + 1) (at + x) (p + u) (decodeFrom k t (n + 1 + 1) (p + u) d)) fuel (drop-drop x at b)
 
 -- ---- a turn of the search for an offset
 
@@ -172,30 +193,24 @@ offset-next b at i x ea ex = rw (add-one i, ← ea, ex)
 
 -- ---- what a walk's answer says
 
--- the entries of a book of which a walk told n, i and p
-pub record Told (t : ℕ) (b : List ℕ) (n i p : ℕ) : Type 0 where
+-- the entries of a book of which a walk told how it stands
+pub record Told (t : ℕ) (b : List ℕ) (st : Standing) : Type 0 where
   pub entries : List Entry
   pub decoded : decode t b ≡ some entries
-  pub number : n ≡ length entries
-  pub ends : i ≡ lengthAll entries
-  pub place : p ≡ usedAll entries
+  pub stands : st ≡ standing entries
 
-told-nothing : (o : Option (List Entry)) → Damaged ≡ telling 0 0 0 o → o ≡ none
+told-nothing : (o : Option (List Entry)) → Damaged ≡ telling o → o ≡ none
 told-nothing none q = refl
 told-nothing (some es) q = let z : _≡_ {A = ℕ} 0 1 = cc in absurd (omega arith)
 
-told-sound : (t : ℕ) (b : List ℕ) (n i p : ℕ) (o : Option (List Entry)) → decode t b ≡ o → Sound n i p ≡ telling 0 0 0 o → Told t b n i p
-told-sound t b n i p none e q = let z : _≡_ {A = ℕ} 0 1 = cc in absurd (omega arith)
-told-sound t b n i p (some es) e q =
-    let a : n ≡ 0 + length es = cc in
-    let c : i ≡ 0 + lengthAll es = cc in
-    let d : p ≡ 0 + usedAll es = cc in
-    record { entries = es; decoded = e; number = omega arith; ends = omega arith; place = omega arith }
+told-sound : (t : ℕ) (b : List ℕ) (st : Standing) (o : Option (List Entry)) → decode t b ≡ o → Sound st ≡ telling o → Told t b st
+told-sound t b st none e q = let z : _≡_ {A = ℕ} 0 1 = cc in absurd (omega arith)
+told-sound t b st (some es) e q = record { entries = es; decoded = e; stands = cc }
 
 pub walked-damaged : (t : ℕ) (b : List ℕ) → Damaged ≡ walked t b → decode t b ≡ none
 unfolding walked
 walked-damaged t b q = told-nothing (decode t b) q
 
-pub walked-sound : (t : ℕ) (b : List ℕ) (n i p : ℕ) → Sound n i p ≡ walked t b → Told t b n i p
+pub walked-sound : (t : ℕ) (b : List ℕ) (st : Standing) → Sound st ≡ walked t b → Told t b st
 unfolding walked
-walked-sound t b n i p q = told-sound t b n i p (decode t b) refl q
+walked-sound t b st q = told-sound t b st (decode t b) refl q

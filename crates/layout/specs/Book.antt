@@ -1,6 +1,6 @@
 -- 01, 'The book': a book's entries, written and read. Assumes nothing.
 use Prim.Native.Nat.{ℕ, zero, suc, _+_, _-_}
-use mathlib.Core.Bool.{Bool, cond, _&&_, _||_}
+use mathlib.Core.Bool.{Bool, true, false, cond, _&&_, _||_}
 use mathlib.Core.List.{List, [], _∷_, _++_}
 use mathlib.Core.Option.{Option, none, some, Option·map}
 use lib.Dec.{eqb, leb, ltb}
@@ -9,7 +9,16 @@ use Rattle.bytes_le.specs.Zeros.{allZero}
 use Rattle.layout.specs.declared.Head.{Head}
 use Rattle.layout.specs.declared.Head.the-variants.{End, Damage, Next}
 use Rattle.kinds.specs.Kinds.{kindOf, lengthIn, lengthOf}
-use Rattle.layout.specs.Entry.{Entry, entryBytes, lengthAt, kindAt, serialAt, placeAt, usedAt, entryAt}
+use Rattle.entry.specs.declared.Entry.{Entry}
+use Rattle.entry.specs.Entry.{entryBytes, lengthAt, kindAt, serialAt, placeAt, usedAt, entryAt}
+
+-- a book has at most this many bytes
+abbrev pub mostBytes : ℕ
+mostBytes = 65536
+
+-- refusal 11's condition
+unfoldable pub bookTooLong : List ℕ → Bool
+bookTooLong b = ltb mostBytes (length b)
 
 -- the bytes of entries, one after another
 unfoldable pub entriesBytes : List Entry → List ℕ
@@ -68,3 +77,8 @@ decodeFrom (suc f) t s p l =
 -- a book's entries for a tape of t words, or none where it is not sound (`decodes-sound`, `sound-decodes`)
 unfoldable pub decode : ℕ → List ℕ → Option (List Entry)
 decode t b = decodeFrom (suc (length b)) t 1 0 b
+
+-- that there is none
+abbrev pub isNone : {A : Type 0} → Option A → Bool
+isNone none = true
+isNone (some x) = false

@@ -1,4 +1,3 @@
-pub mod Entry
 pub mod Book
 pub mod Sound
 pub mod Walk

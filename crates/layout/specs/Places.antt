@@ -2,14 +2,7 @@
 use Prim.Native.Nat.{ℕ, suc, _+_, _≤_, _<_}
 use mathlib.Core.List.{List}
 use lib.ListN.{length}
-use Rattle.kinds.specs.Kinds.{kindOf, lengthIn}
-use Rattle.layout.specs.Entry.{kindAt}
 use Rattle.layout.specs.Sound.{offset}
-
--- an entry of one of the table's kinds lies whole at i
-pub record HasEntry (b : List ℕ) (i : ℕ) : Type 0 where
-  pub known : 0 < lengthIn (kindOf (kindAt b i))
-  pub room : i + lengthIn (kindOf (kindAt b i)) ≤ length b
 
 -- k entries lie one after another within the book
 abbrev pub Reaches : List ℕ → ℕ → Type 0

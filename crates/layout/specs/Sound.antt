@@ -5,7 +5,7 @@ use mathlib.Core.Logic.{_⊎_}
 use mathlib.Core.Path.{_≡_}
 use lib.ListN.{length, getD}
 use Rattle.kinds.specs.Kinds.{kindOf, lengthIn}
-use Rattle.layout.specs.Entry.{lengthAt, kindAt, serialAt, placeAt, usedAt}
+use Rattle.entry.specs.Entry.{lengthAt, kindAt, serialAt, placeAt, usedAt}
 
 -- entries stand one after another: where the entry i begins, the first being 0
 unfoldable pub offset : List ℕ → ℕ → ℕ

@@ -1,41 +1,31 @@
-// The layout of a book: one entry read or written, and the walk over all of them.
+// The layout of a book: entries one after another, and the walk over all of them.
 use bytes_le::all_zero;
 use bytes_le::read_le;
-use bytes_le::write_le;
-use kinds::Request;
-use kinds::Row;
-use kinds::kind_of;
+use entry::FIXED;
+use entry::KIND;
+use entry::PLACE;
+use entry::SERIAL;
+use entry::USED;
 use kinds::length_by;
-use kinds::length_of;
-use kinds::parameters_by;
-use kinds::parts_of;
-use kinds::row_of;
 ghost use mathlib.Core.Path.{_≡_};
-ghost use Prim.Native.Nat.{ℕ, suc, _+_, _*_, _≤_, _<_};
 ghost use mathlib.Core.Bool.{cond};
-ghost use lib.Dec.{ltb};
-ghost use lib.ListN.{length, getD, drop};
-ghost use lib.Seq.{sets};
-ghost use Rattle.bytes_le.specs.LittleEndian.{bytesOf, wordsFrom};
-ghost use Rattle.kinds.specs.Kinds.{kindOf, parametersIn, kindNumber, parametersOf, lengthOf};
-ghost use Rattle.layout.specs.Entry.{booking, parameterBytes, fixedBytes, entryBytes, rowAt};
-ghost use Rattle.layout.specs.Book.{isClosed, head};
+ghost use Prim.Native.Nat.{_+_, _≤_};
+ghost use lib.ListN.{length, drop};
+ghost use Rattle.entry.specs.Entry.{lengthAt};
+ghost use Rattle.layout.specs.Book.{bookTooLong, isClosed, head};
 ghost use Rattle.layout.specs.Sound.{offset};
 ghost use Rattle.layout.specs.Walk.{walked};
-ghost use Rattle.layout.specs.Places.{HasEntry, Reaches};
+ghost use Rattle.layout.specs.Places.{Reaches};
 
-// Where an entry's fields stand, counted from its first byte. The length stands first.
-pub const KIND: usize = 2;
+// How a book stands: the number of its entries, where they end, and the tape's place after them.
+pub struct Standing {
+    pub entries: u64,
+    pub end: usize,
+    pub place: usize,
+}
 
-pub const SERIAL: usize = 4;
-
-pub const PLACE: usize = 8;
-
-pub const USED: usize = 12;
-
-pub const COUNT: usize = 16;
-
-const PARAMETERS: usize = 24;
+// The most bytes that a book may have.
+const MOST_BYTES: usize = 65_536;
 
 // What stands at the front of the bytes that are left.
 enum Head {
@@ -44,100 +34,25 @@ enum Head {
     Next,
 }
 
-// What a walk tells of a book: the number of its entries, where they end, and the tape's place after them.
+// What a walk tells of a book: how it stands, or that it is not sound.
 pub enum Walked {
     Damaged,
-    Sound {
-        entries: u64,
-        end: usize,
-        place: usize,
-    },
+    Sound(Standing),
 }
 
-// ---- one entry
-
-// The parameter i of so many that stand from `at` on, and 0 past the last.
-fn parameter_at(book: &[u8], at: usize, parameters: u64, i: u64) -> u64
-    requires { ⌜ at + 8 * parameters ≤ length (now book) ⌝ }
-    ensures { λ r. ⌜ r ≡ getD (wordsFrom parameters (drop at (now (book .entry)))) i 0 ⌝ }
+// Whether the book has more bytes than a book may have.
+pub fn is_too_long(book: &[u8]) -> bool
+    ensures { λ r. ⌜ r ≡ bookTooLong (now (book .entry)) ⌝ }
 {
-    if i < parameters {
-        return read_le(book, at + 8 * (i as usize), 8);
-    }
-    0
+    MOST_BYTES < book.len()
 }
 
-// What the table has for the entry at `at`: its request, if its kind is one of the table's.
-pub fn row_at(book: &[u8], at: usize) -> Row
-    requires { ⌜ HasEntry (now book) at ⌝ }
-    ensures { λ r. ⌜ r ≡ rowAt (now (book .entry)) at ⌝ }
+// Where the entry after the one at `at` begins.
+pub fn next_at(book: &[u8], at: usize) -> usize
+    requires { ⌜ (at + 2 ≤ length (now book)) × (at + lengthAt (now book) at ≤ length (now book)) ⌝ }
+    ensures { λ r. ⌜ r ≡ at + lengthAt (now (book .entry)) at ⌝ }
 {
-    let kind = read_le(book, at + KIND, 2) as u16;
-    let parameters = parameters_by(kind);
-    let first = parameter_at(book, at + PARAMETERS, parameters, 0);
-    let second = parameter_at(book, at + PARAMETERS, parameters, 1);
-    let third = parameter_at(book, at + PARAMETERS, parameters, 2);
-    row_of(kind, first, second, third)
-}
-
-// The 24 bytes that every entry has.
-fn put_fixed(
-    book: &mut [u8],
-    at: usize,
-    request: Request,
-    serial: u64,
-    place: u64,
-    used: u64,
-    count: u64,
-)
-    requires { ⌜ at + 24 ≤ length (now book) ⌝ }
-    ensures { λ _. ⌜ now (book .exit) ≡ sets (now (book .entry)) at (fixedBytes (booking request serial place used count)) ⌝ }
-{
-    write_le(book, at, 2, length_of(request));
-    write_le(book, at + KIND, 2, kind_of(request) as u64);
-    write_le(book, at + SERIAL, 4, serial);
-    write_le(book, at + PLACE, 4, place);
-    write_le(book, at + USED, 4, used);
-    write_le(book, at + COUNT, 8, count);
-}
-
-// Writes the parameter i of so many that stand from `at` on, and nothing past the last.
-fn put_parameter(book: &mut [u8], at: usize, parameters: u64, i: u64, value: u64)
-    requires { ⌜ at + 8 * parameters ≤ length (now book) ⌝ }
-    ensures { λ _. ⌜ now (book .exit) ≡ cond (ltb i parameters) (sets (now (book .entry)) (at + 8 * i) (bytesOf 8 value)) (now (book .entry)) ⌝ }
-{
-    if i < parameters {
-        write_le(book, at + 8 * (i as usize), 8, value);
-    }
-}
-
-// A request's parameters, one after another. (A loop over them becomes a call of memcpy, which costs more than the three tests.)
-fn put_parameters(book: &mut [u8], at: usize, request: Request)
-    requires { ⌜ at + 8 * parametersIn (kindOf (kindNumber request)) ≤ length (now book) ⌝ }
-    ensures { λ _. ⌜ now (book .exit) ≡ sets (now (book .entry)) at (parameterBytes (parametersOf request)) ⌝ }
-{
-    let parts = parts_of(request);
-    let parameters = parameters_by(parts.kind);
-    put_parameter(book, at, parameters, 0, parts.first);
-    put_parameter(book, at, parameters, 1, parts.second);
-    put_parameter(book, at, parameters, 2, parts.third);
-}
-
-// Writes an entry's bytes from `at` on, and no other byte.
-pub fn put_entry(
-    book: &mut [u8],
-    at: usize,
-    request: Request,
-    serial: u64,
-    place: u64,
-    used: u64,
-    count: u64,
-)
-    requires { ⌜ at + lengthOf request ≤ length (now book) ⌝ }
-    ensures { λ _. ⌜ now (book .exit) ≡ sets (now (book .entry)) at (entryBytes (booking request serial place used count)) ⌝ }
-{
-    put_fixed(book, at, request, serial, place, used, count);
-    put_parameters(book, at + PARAMETERS, request);
+    at + read_le(book, at, 2) as usize
 }
 
 // ---- the walk
@@ -158,8 +73,8 @@ fn head_at(book: &[u8], at: usize, serial: u64, place: u64) -> Head
     if (left as u64) < length {
         return Head::Damage;
     }
-    // Every entry has 24 bytes or more: of a shorter one the fields below could lie outside the book.
-    if length < 24 {
+    // Every entry has its fixed fields: of a shorter one they could lie outside the book.
+    if length < FIXED as u64 {
         return Head::Damage;
     }
     if length != length_by(read_le(book, at + KIND, 2) as u16) {
@@ -175,19 +90,15 @@ fn head_at(book: &[u8], at: usize, serial: u64, place: u64) -> Head
 }
 
 // Past the last entry: the words used have to be on the tape, and every byte 0.
-fn closed(book: &[u8], at: usize, entries: u64, place: usize, words: usize) -> Walked
-    requires { ⌜ at ≤ length (now book) ⌝ }
-    ensures { λ r. ⌜ r ≡ cond (isClosed words place (drop at (now (book .entry)))) (Walked.Sound entries at place) Walked.Damaged ⌝ }
+fn closed(book: &[u8], standing: Standing, words: usize) -> Walked
+    requires { ⌜ standing .end ≤ length (now book) ⌝ }
+    ensures { λ r. ⌜ r ≡ cond (isClosed words (standing .place) (drop (standing .end) (now (book .entry)))) (Walked.Sound standing) Walked.Damaged ⌝ }
 {
-    if words < place {
+    if words < standing.place {
         return Walked::Damaged;
     }
-    if all_zero(book, at) {
-        return Walked::Sound {
-            entries,
-            end: at,
-            place,
-        };
+    if all_zero(book, standing.end) {
+        return Walked::Sound(standing);
     }
     Walked::Damaged
 }
@@ -202,7 +113,14 @@ pub fn walk(book: &[u8], words: usize) -> Walked
     loop {
         let head = head_at(book, at, entries + 1, place as u64);
         match head {
-            Head::End => return closed(book, at, entries, place, words),
+            Head::End => {
+                let standing = Standing {
+                    entries,
+                    end: at,
+                    place,
+                };
+                return closed(book, standing, words);
+            }
             Head::Damage => return Walked::Damaged,
             Head::Next => {}
         }
@@ -220,7 +138,7 @@ pub fn offset_of(book: &[u8], k: u64) -> usize
     let mut at: usize = 0;
     let mut i: u64 = 0;
     while i < k {
-        at += read_le(book, at, 2) as usize;
+        at = next_at(book, at);
         i += 1;
     }
     at

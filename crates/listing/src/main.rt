@@ -1,8 +1,8 @@
 // Lists the book on standard input: a header, a line for each entry, and their number; or the one line of a refusal.
+use book_lines::LISTING_BYTES;
 use input::Got;
 use libc::STDIN_FILENO;
 use libc::STDOUT_FILENO;
-use text::LISTING_BYTES;
 
 // A byte more than a book may have is enough to refuse it.
 const READ_BYTES: usize = 65_537;
@@ -10,7 +10,7 @@ const READ_BYTES: usize = 65_537;
 // Writes the listing of these bytes.
 fn list(book: &[u8]) {
     let mut out = [0u8; LISTING_BYTES];
-    let length = text::listing(book, &mut out);
+    let length = book_lines::listing(book, &mut out);
     io::write_all(STDOUT_FILENO, &out[..length]);
 }
 

@@ -1,3 +1,3 @@
 pub mod Reading
 pub mod Rounding
-pub mod Writing
+pub mod Written

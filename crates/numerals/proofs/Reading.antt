@@ -3,7 +3,7 @@ use mathlib.Core.Path.{_≡_, refl}
 use mathlib.Core.Bool.{Bool, true, false, cond, not, _&&_, and-false}
 use mathlib.Core.List.{List, [], _∷_, _++_}
 use mathlib.Core.Logic.{_⊎_, inl, inr, ⊎-elim}
-use Prim.Native.Nat.{ℕ, suc, _+_, _*_, _-_, _^_, _≤_, _<_, zero-le}
+use Prim.Native.Nat.{ℕ, suc, _+_, _*_, _-_, _^_, _≤_, _<_}
 use native.Mathlib.Nat.{le-refl, lt-of-lt-of-le, mul-le-mul-right, add-suc}
 use native.Mathlib.Numerals.{add-one}
 use native.Mathlib.Omega.{arith}
@@ -13,7 +13,7 @@ use denote.Floats.{passes, is-true}
 use lib.ListN.{length, getD, take, drop, drop-of-length-le}
 use lib.Seq.{take-length, drop-drop, drop-cons}
 use borrow.Author.Tests.{lt-leb, le-leb, lt-ltb, le-ltb, leb-false, ltb-false}
-use Rattle.bytes.specs.Bytes.{slice, indexAfter, indexOf}
+use Rattle.bytes.specs.Bytes.{slice, indexOf}
 use Rattle.numerals.specs.declared.Number.the-variants.{Is, Unread}
 use Rattle.numerals.specs.Split.{upTo, past, has}
 use Rattle.numerals.specs.Digits.{digitOf, areDigits, spells, continued, isEmpty, number}
@@ -139,17 +139,6 @@ pub number-within : (b m v : ℕ) (l : List ℕ) → number b m l ≡ Is v → v
 number-within b m v l e = continued-is b m l 0 v (number-is b m v l e .1) .2
 
 -- ---- text parted by a byte
-
-after-within : (t : Bool) (k n : ℕ) → k ≤ n → indexAfter t k ≤ suc n
-unfolding indexAfter
-after-within true k n h = zero-le
-after-within false k n h = omega arith
-
--- the first s stands in the text, or its place is the text's end
-pub index-within : (s : ℕ) (l : List ℕ) → indexOf s l ≤ length l
-unfolding indexOf
-index-within s [] = zero-le
-index-within s (x ∷ xs) = after-within (eqb x s) (indexOf s xs) (length xs) (index-within s xs)
 
 -- the slice up to the end is what is left from its start on
 pub slice-rest : (from : ℕ) (l : List ℕ) → slice from (length l) l ≡ drop from l

@@ -1,19 +1,10 @@
--- Whole numbers as text, in ASCII: written without leading zeros, read with or without. Assumes nothing.
-use Prim.Native.Nat.{ℕ, zero, suc, _+_, _-_, _*_, _/_, _%_}
+-- Whole numbers as text, in ASCII, as they are read: with leading zeros or without. Assumes nothing.
+use Prim.Native.Nat.{ℕ, _+_, _-_, _*_}
 use mathlib.Core.Bool.{Bool, true, false, cond, _&&_}
-use mathlib.Core.List.{List, [], _∷_, _++_}
+use mathlib.Core.List.{List, [], _∷_}
 use lib.Dec.{leb, ltb}
 use Rattle.numerals.specs.declared.Number.{Number}
 use Rattle.numerals.specs.declared.Number.the-variants.{Is, Unread}
-
--- the decimal digits of a number below 10^k, the highest first, and no 0 before it
-unfoldable pub decimalOf : ℕ → ℕ → List ℕ
-decimalOf zero n = []
-decimalOf (suc k) n = cond (ltb n 10) [] (decimalOf k (n / 10)) ++ ((48 + n % 10) ∷ [])
-
--- a number of 64 bits is below 10^20
-unfoldable pub decimal : ℕ → List ℕ
-decimal n = decimalOf 20 n
 
 -- whether a byte lies between two others
 abbrev pub isWithin : ℕ → ℕ → ℕ → Bool

@@ -1,4 +1,3 @@
 pub mod Split
 pub mod Digits
 pub mod Decimal
-pub mod Writing

@@ -11,7 +11,7 @@ use lib.ListN.{length, take, getD}
 use lib.Ieee.{Float, nan, binary64, round, mul, lt, le, ofBits}
 use Rattle.words.specs.Words.{mostWords, ratio, fractionOf}
 use Rattle.words.specs.Outcome.{drawn, refused}
-use Rattle.words.specs.Rule.{done, more, reading}
+use Rattle.words.specs.Rule.{done, more}
 use Rattle.words.specs.Refusals.{First}
 use Rattle.words.specs.Draw.{isOn, conditions, draw}
 use Rattle.words.proofs.Patterns.{bits-between, bits-under, bits-over}
@@ -20,7 +20,7 @@ use Rattle.words.proofs.Keeping.{After, after-cond, reading-keeps}
 use Rattle.words.proofs.Locality.{reading-local}
 use Rattle.words.proofs.Drawing.{accepted-within, accepted-reading}
 use Rattle.words.proofs.Lawful.{Lawful, lawful-exactly, lawful-local}
-use Rattle.poisson.specs.Poisson.{Product, none, product, whileAbove, knuthRule, inRange, thresholdRefusals, poisson}
+use Rattle.poisson.specs.Poisson.{Product, none, product, whileAbove, knuthRule, inRange, poisson}
 
 -- a NaN is outside the range; both its ends are inside, and the next floats past them are not
 pub nan-outside : inRange nan ≡ false

@@ -1,6 +1,7 @@
 // `KnuthMethod` of rand_distr's poisson.rs: the product of fractions against a threshold that is handed in,
 // since exp's last bits are the platform's.
 use words::Answer;
+use words::Draw;
 use words::Refusal;
 use words::Word;
 ghost use mathlib.Core.Path.{_≡_};
@@ -64,8 +65,8 @@ fn knuth_method(tape: &[u64], exp_lambda: f64) -> Answer
         result += 1;
     }
     let used = result + 1;
-    Answer::Drawn {
+    Answer::Drawn(Draw {
         count: result as u64,
         used,
-    }
+    })
 }

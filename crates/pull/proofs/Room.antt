@@ -5,8 +5,8 @@ use Prim.Native.Nat.{ℕ, _≤_}
 use lib.ListN.{length}
 use lib.Seq.{length-take-le}
 use Rattle.io.specs.Counts.{Counts}
-use Rattle.numerals.specs.Writing.{Writes}
-use Rattle.numerals.proofs.Writing.{written-within}
+use Rattle.writing.specs.Writing.{Writes}
+use Rattle.writing.proofs.Writing.{written-within}
 
 -- a number up to the length counts elements at the front
 pub counts : (n : ℕ) (l : List ℕ) → n ≤ length l → Counts n l

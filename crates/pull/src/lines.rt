@@ -23,7 +23,7 @@ struct Reading {
 fn answer(tape: &[u64], book: &mut [u8], path: &[u8], line: &[u8], number: u64) -> bool
     requires { ⌜ size (now path) ≤ 4091 ⌝ }
 {
-    let mut out = [0u8; text::ANSWER_BYTES];
+    let mut out = [0u8; answer_lines::ANSWER_BYTES];
     let served = service::serve(tape, book, number, line, &mut out);
     if served.changed && !replace(path, book) {
         say(b"unwritten\n");

@@ -6,7 +6,7 @@ ghost use Rattle.pull.specs.Within.{KeptWithin};
 use bytes_le::all_zero;
 use input::Got;
 use input::fill;
-use numerals::put_text;
+use writing::put_text;
 
 // The bytes of a book that is made here, and a byte more: enough to tell that a file is longer than any book.
 pub(crate) const BOOK_BYTES: usize = 65_536;

@@ -12,17 +12,19 @@ use Rattle.words.specs.Outcome.{Outcome, drawn, refused}
 use Rattle.bytes_le.specs.Zeros.{wiped}
 use Rattle.bytes_le.proofs.Zeros.{wipe-done}
 use Rattle.kinds.specs.declared.Request.{Request}
-use Rattle.layout.specs.Entry.{Entry}
+use Rattle.entry.specs.declared.Entry.{Entry}
 use Rattle.layout.specs.Book.{lengthAll}
-use Rattle.book.specs.Calls.{Call, call, booked, Standing, standing}
+use Rattle.opening.specs.Calls.{Call, call, booked}
+use Rattle.layout.specs.Walk.{standing}
+use Rattle.layout.specs.declared.Standing.{Standing}
 use Rattle.book.specs.Deliver.{Booking, fresh, copy, afterDelivery, deliverTo, deliver}
 use Rattle.book.specs.Strike.{leftBy, afterStrike, strikeIn, strike}
-use Rattle.book.specs.Redraw.{Redrawing}
-use Rattle.numerals.specs.Writing.{Writes}
+use Rattle.redraws.specs.Redraw.{Redrawing}
+use Rattle.writing.specs.Writing.{Writes}
 use Rattle.request_line.specs.declared.Line.{Line}
 use Rattle.request_line.specs.declared.Line.the-variants.{Deliver, Strike, Redraw, Passed, Unread}
 use Rattle.request_line.specs.Forms.{readLine}
-use Rattle.text.specs.Answers.{deliveryLine, strikeLine, redrawLine}
+use Rattle.answer_lines.specs.Answers.{deliveryLine, strikeLine, redrawLine}
 use Rattle.service.specs.Service.{serving, isFresh, isStruck, delivering, striking, answered, serve, Meets}
 
 -- nothing said is written by itself

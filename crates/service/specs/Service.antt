@@ -5,15 +5,15 @@ use mathlib.Core.List.{List, []}
 use mathlib.Core.Path.{_≡_}
 use lib.Dec.{eqb}
 use Rattle.words.specs.Outcome.{Outcome, drawn, refused}
-use Rattle.book.specs.Calls.{Call}
+use Rattle.opening.specs.Calls.{Call}
 use Rattle.book.specs.Deliver.{Booking, fresh, copy, deliver}
 use Rattle.book.specs.Strike.{strike}
-use Rattle.book.specs.Redraw.{redraw}
-use Rattle.numerals.specs.Writing.{Writes}
+use Rattle.redraws.specs.Redraw.{redraw}
+use Rattle.writing.specs.Writing.{Writes}
 use Rattle.request_line.specs.declared.Line.{Line}
 use Rattle.request_line.specs.declared.Line.the-variants.{Deliver, Strike, Redraw, Passed, Unread}
 use Rattle.request_line.specs.Forms.{readLine}
-use Rattle.text.specs.Answers.{deliveryLine, strikeLine, redrawLine, unreadLine}
+use Rattle.answer_lines.specs.Answers.{deliveryLine, strikeLine, redrawLine, unreadLine}
 
 pub record Service : Type 0 where
   -- the answer's line; nothing for a line that is passed over

@@ -1,13 +1,13 @@
 // One line of the pull service: it is read, its call is made, and its answer is a line of bytes.
+use answer_lines::ANSWER_BYTES;
+use answer_lines::delivered_line;
+use answer_lines::redrawn_line;
+use answer_lines::struck_line;
+use answer_lines::unread_line;
 use book::Delivered;
 use book::Struck;
 use kinds::Request;
 use request_line::Line;
-use text::ANSWER_BYTES;
-use text::delivered_line;
-use text::redrawn_line;
-use text::struck_line;
-use text::unread_line;
 ghost use mathlib.Core.Path.{_≡_};
 ghost use Rattle.book.specs.Deliver.{delivered};
 ghost use Rattle.book.specs.Deliver as deliveries;
@@ -26,8 +26,8 @@ fn is_fresh(answer: Delivered) -> bool
     ensures { λ r. ⌜ r ≡ isFresh (delivered answer) ⌝ }
 {
     match answer {
-        Delivered::Fresh { count: _, used: _ } => true,
-        Delivered::Copy { count: _, used: _ } => false,
+        Delivered::Fresh(_) => true,
+        Delivered::Copy(_) => false,
         Delivered::Refused(_) => false,
     }
 }
@@ -79,7 +79,7 @@ pub fn serve(
         Line::Deliver { serial, request } => deliver(tape, book, serial, request, out),
         Line::Strike { j } => strike(tape, book, j, out),
         Line::Redraw => {
-            let length = redrawn_line(book::redraw(tape, book), out);
+            let length = redrawn_line(redraws::redraw(tape, book), out);
             Served {
                 length,
                 changed: false,

@@ -1,17 +1,19 @@
 // Draws again what the Rust drew. Standard input has cases as oracle/README.md describes them: a request, the words, and what the Rust
-// did. Writes the first few that differ where no entry of docs/DIFFERENCES.md says so; then how many cases of each kind there were and how
-// many of them agree, how many differ by each entry, and how many others.
+// did; or a word and its fraction. Writes the first few that differ where no entry of docs/DIFFERENCES.md says so; then how many cases of
+// each kind there were and how many of them agree, how many differ by each entry, and how many others.
 mod cases;
+mod compare;
+mod kept;
+mod single;
 mod tally;
+mod tell;
 
 use input::Got;
 use libc::STDIN_FILENO;
 use libc::STDOUT_FILENO;
 use tally::TALLY;
 
-// What is read at a time. A block of cases has so many bytes, and no case goes over its end.
-const BLOCK_BYTES: usize = 65_536;
-
+// What is read at a time, and fills a large buffer. No case goes over a block's end.
 const BLOCK_WORDS: usize = 8_192;
 
 // What came of a block: its cases are drawn again and there may be more, the input has ended, or nothing can be made of it.
@@ -23,7 +25,7 @@ enum Block {
 
 // Reads a block, and draws its cases again.
 fn take_block(tally: &mut [u64; TALLY]) -> Block {
-    let mut bytes = [0u8; BLOCK_BYTES];
+    let mut bytes = io::large_buffer();
     let mut words = [0u64; BLOCK_WORDS];
     match input::fill(STDIN_FILENO, &mut bytes) {
         Got::Failed => Block::Unread,

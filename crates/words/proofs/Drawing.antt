@@ -1,14 +1,14 @@
 -- Laws of a draw's outcome, once for every drawing. Assumes nothing.
-use mathlib.Core.Path.{_≡_, refl, sym, ap, _∙_}
+use mathlib.Core.Path.{_≡_, ap, _∙_}
 use mathlib.Core.Bool.{true, false, cond}
-use mathlib.Core.List.{List, [], _∷_, _++_}
+use mathlib.Core.List.{List, [], _∷_}
 use mathlib.Core.Logic.{inr, _↔_}
 use Prim.Native.Nat.{ℕ, _≤_}
 use lib.ListN.{length, take}
 use Rattle.words.specs.Words.{mostWords, tooLong}
 use Rattle.words.specs.Outcome.{Outcome, drawn, refused}
 use Rattle.words.specs.Rule.{Local}
-use Rattle.words.specs.Refusals.{Condition, _on_, given, First, NoneHolds}
+use Rattle.words.specs.Refusals.{_on_, given, First, NoneHolds}
 use Rattle.words.specs.Draw.{shorts, isShort, endings, Drawing, conditions, draw}
 use Rattle.words.proofs.Tape.{within-limit, limit-within}
 use Rattle.words.proofs.Exactly.{first-given, first-before, exactly, some-after, given-append, none-given, none-before, drawn-exactly}

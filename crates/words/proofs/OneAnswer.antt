@@ -5,10 +5,11 @@ use Prim.Native.Nat.{ℕ}
 use lib.ListN.{getD}
 use Rattle.words.specs.declared.Answer.{Answer}
 use Rattle.words.specs.declared.Answer.the-variants.{Drawn, Refused}
+use Rattle.words.specs.declared.Draw.{Draw}
 use Rattle.words.specs.declared.Refusal.{Refusal}
 use Rattle.words.specs.declared.Refusal.the-variants.{TapeTooLong, PopulationTooLarge, ProbabilityTooLarge, SampleSizeTooLarge, CapExceeded, ModeTooHigh, ThresholdOutside, InvalidProbability, TooRare, Exhausted, BookTooLong, BookDamaged, SerialAhead, SerialReused, BookFull, StrikeTooMany, RedrawDiffers}
 use Rattle.words.specs.Outcome.{Outcome, drawn, refused}
-use Rattle.words.specs.Paper.{numberOf, paper}
+use Rattle.words.specs.Paper.{numberOf, drew, paper}
 
 -- the refusals in the order of their numbers; no refusal has the number 0
 abbrev named : List Refusal
@@ -43,12 +44,16 @@ name-of-number RedrawDiffers = refl
 pub one-refusal : (x y : Refusal) → numberOf x ≡ numberOf y → x ≡ y
 one-refusal x y e = sym (name-of-number x) ∙ ap nameOf e ∙ name-of-number y
 
+-- two draws with one count and as many words used are one draw
+pub one-draw : (c d : Draw) → c .count ≡ d .count → c .used ≡ d .used → c ≡ d
+one-draw c d e f = λ i. drew (e i) (f i)
+
 abbrev back : Outcome ℕ → Answer
-back (drawn c u) = Drawn c u
+back (drawn c u) = Drawn (drew c u)
 back (refused n) = Refused (nameOf n)
 
 back-of-paper : (a : Answer) → back (paper a) ≡ a
-back-of-paper (Drawn c u) = refl
+back-of-paper (Drawn d) = refl
 back-of-paper (Refused x) = ap Refused (name-of-number x)
 
 pub one-answer : (a b : Answer) → paper a ≡ paper b → a ≡ b

@@ -2,10 +2,11 @@
 use mathlib.Core.Path.{_≡_, refl}
 use mathlib.Core.Bool.{Bool, true, false, cond}
 use mathlib.Core.List.{List}
-use Prim.Native.Nat.{ℕ, _≤_, _<_}
+use Prim.Native.Nat.{ℕ, _-_, _≤_, _<_}
 use native.Mathlib.Omega.{arith}
 use lib.Dec.{ltb}
-use lib.ListN.{length, getD}
+use lib.ListN.{length, getD, take, drop, length-drop}
+use lib.Seq.{take-all}
 use borrow.Author.Tests.{ltb-true, ltb-false, le-ltb}
 use Rattle.words.specs.declared.Word.the-variants.{Is, End}
 use Rattle.words.specs.Words.{mostWords, tooLong, wordAt}
@@ -37,3 +38,7 @@ module _ (ws : List ℕ) where
       go : (b : Bool) → ltb i (length ws) ≡ b → cond b (Is (getD ws i 0)) End ≡ End → length ws ≤ i
       go true t x = let z : _≡_ {A = ℕ} 0 1 = cc in absurd (omega arith)
       go false t x = ltb-false i (length ws) t
+
+-- the tape from a place on, as it is lent
+pub lent-from : (ws : List ℕ) (p : ℕ) → take (length ws - p) (drop p ws) ≡ drop p ws
+lent-from ws p = take-all (length ws - p) (drop p ws) (omega (arith, length-drop p ws))

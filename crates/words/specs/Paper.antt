@@ -2,6 +2,7 @@
 use Prim.Native.Nat.{ℕ}
 use Rattle.words.specs.declared.Answer.{Answer}
 use Rattle.words.specs.declared.Answer.the-variants.{Drawn, Refused}
+use Rattle.words.specs.declared.Draw.{Draw}
 use Rattle.words.specs.declared.Refusal.{Refusal}
 use Rattle.words.specs.declared.Refusal.the-variants.{TapeTooLong, PopulationTooLarge, ProbabilityTooLarge, SampleSizeTooLarge, CapExceeded, ModeTooHigh, ThresholdOutside, InvalidProbability, TooRare, Exhausted, BookTooLong, BookDamaged, SerialAhead, SerialReused, BookFull, StrikeTooMany, RedrawDiffers}
 use Rattle.words.specs.Outcome.{Outcome, drawn, refused}
@@ -25,7 +26,14 @@ numberOf BookFull = 15
 numberOf StrikeTooMany = 16
 numberOf RedrawDiffers = 17
 
+-- what was drawn: a count, and the words used
+abbrev pub drew : ℕ → ℕ → Draw
+drew c u = record { count = c; used = u }
+
+abbrev pub told : Draw → Outcome ℕ
+told d = drawn (d .count) (d .used)
+
 -- a draw's answer; nothing is lost (`one-answer`)
 abbrev pub paper : Answer → Outcome ℕ
-paper (Drawn c u) = drawn c u
+paper (Drawn d) = told d
 paper (Refused x) = refused (numberOf x)

@@ -25,9 +25,15 @@ pub enum Refusal {
     RedrawDiffers,
 }
 
-// What a draw answers: its count and the number of words that it used, or why there is none.
+// What was drawn: the count, and the number of words that the draw used.
+pub struct Draw {
+    pub count: u64,
+    pub used: usize,
+}
+
+// What a draw answers: what was drawn, or why nothing was.
 pub enum Answer {
-    Drawn { count: u64, used: usize },
+    Drawn(Draw),
     Refused(Refusal),
 }
 
@@ -73,7 +79,7 @@ pub fn is_short(number: u32) -> bool
 }
 
 // The most words that a tape may have.
-const MOST_WORDS: usize = 1_048_576;
+pub const MOST_WORDS: usize = 1_048_576;
 
 // Whether the tape has more words than a tape may have.
 pub fn too_long(tape: &[u64]) -> bool

@@ -4,11 +4,11 @@ use native.Mathlib.Omega.{arith}
 use Rattle.banlothek.proofs.accept.Statement.{statement}
 use Rattle.banlothek.proofs.accept.Tie as tie
 
-cast-t4 : tie.Need-cast-t4
-cast-t4 c = omega arith
+cast-used : tie.Need-cast-used
+cast-used c = omega arith
 
 returns : tie.Need-returns
 returns c = refl
 
 pub accept-spec : {M : Type 1} → statement M
-accept-spec = tie.close (tie.spec cast-t4 returns)
+accept-spec = tie.close (tie.spec cast-used returns)

@@ -7,14 +7,14 @@ use Rattle.banlothek.proofs.Fits.{draw-fits}
 use Rattle.banlothek.proofs.banlothek_draw_standard_geometric.Statement.{statement}
 use Rattle.banlothek.proofs.banlothek_draw_standard_geometric.Tie as tie
 
-sample-standard-requires : tie.Need-sample-standard-requires
-sample-standard-requires c κs = search needs
+sample-requires : tie.Need-sample-requires
+sample-requires c κs = search needs
 
 told-requires : tie.Need-told-requires
-told-requires c κs = let a = c .before .before .args in draw-fits StandardGeometric (a .tape .now) _ (c .sample-standard .ensures)
+told-requires c κs = let a = c .before .before .args in draw-fits StandardGeometric (a .tape .now) _ (c .sample .ensures)
 
 returns : tie.Need-returns
-returns c = c .told .ensures ∙ ap plain (c .before .sample-standard .ensures)
+returns c = c .told .ensures ∙ ap plain (c .before .sample .ensures)
 
 pub banlothek-draw-standard-geometric-spec : {M : Type 1} → statement M
-banlothek-draw-standard-geometric-spec = tie.close (tie.spec sample-standard-requires told-requires returns)
+banlothek-draw-standard-geometric-spec = tie.close (tie.spec sample-requires told-requires returns)

@@ -3,9 +3,9 @@ use borrow.Author.Needs.{needs}
 use mathlib.Core.Path.{_≡_, sym, ap, _∙_}
 use native.Mathlib.Omega.{arith}
 use Rattle.bytes_le.proofs.Numbers.{Bytes}
-use Rattle.book.specs.declared.Redrawn.{Redrawn}
-use Rattle.book.specs.Redraw.{Redrawing, redrawn}
-use Rattle.book.specs.Redraw as rules
+use Rattle.redraws.specs.declared.Redrawn.{Redrawn}
+use Rattle.redraws.specs.Redraw.{Redrawing, redrawn}
+use Rattle.redraws.specs.Redraw as rules
 use Rattle.banlothek.specs.Face.{ofRedraw}
 use Rattle.banlothek.proofs.Fits.{named-fits}
 use Rattle.banlothek.proofs.banlothek_redraw.Statement.{statement}
@@ -31,8 +31,8 @@ redraw-requires c κs = search needs
 enum-known-entries : tie.Need-enum-known-entries
 enum-known-entries c = search needs
 
-accept-requires : tie.Need-accept-requires
-accept-requires c κs = search needs
+count-entries-requires : tie.Need-count-entries-requires
+count-entries-requires c κs = search needs
 
 enum-known-serial : tie.Need-enum-known-serial
 enum-known-serial c = search needs
@@ -55,7 +55,7 @@ refuse-requires-2 c κs = search needs
 returns : tie.Need-returns
 returns c =
     let t = c .before .before in
-    c .accept .ensures ∙ sym (ap ofRedraw (comes (t .before .before) _ (t .entries .given .1)))
+    c .count-entries .ensures ∙ sym (ap ofRedraw (comes (t .before .before) _ (t .entries .given .1)))
 
 returns-2 : tie.Need-returns-2
 returns-2 c =
@@ -73,7 +73,7 @@ banlothek-redraw-spec =
     (tie.spec
     redraw-requires
     enum-known-entries
-    accept-requires
+    count-entries-requires
     enum-known-serial
     cast-refuse
     refuse-requires

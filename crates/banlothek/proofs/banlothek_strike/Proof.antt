@@ -3,7 +3,7 @@ use borrow.Author.Needs.{needs}
 use mathlib.Core.Path.{_≡_, sym, ap, _∙_}
 use Prim.Native.Nat.{ℕ}
 use Rattle.book.specs.declared.Struck.{Struck}
-use Rattle.book.specs.Calls.{Call}
+use Rattle.opening.specs.Calls.{Call}
 use Rattle.book.specs.Strike.{struck}
 use Rattle.book.specs.Strike as rules
 use Rattle.banlothek.specs.Face.{plain}
@@ -33,8 +33,8 @@ strike-requires c κs = search needs
 enum-known-entries : tie.Need-enum-known-entries
 enum-known-entries c = search needs
 
-accept-requires : tie.Need-accept-requires
-accept-requires c κs = search needs
+count-entries-requires : tie.Need-count-entries-requires
+count-entries-requires c κs = search needs
 
 enum-known-refusal : tie.Need-enum-known-refusal
 enum-known-refusal c = search needs
@@ -49,7 +49,7 @@ returns : tie.Need-returns
 returns c =
     let t = c .before .before in
     let n = t .before .before in
-    record { answers = c .accept .ensures ∙ sym (ap plain (comes n _ (t .entries .given .1))); leaves = left n }
+    record { answers = c .count-entries .ensures ∙ sym (ap plain (comes n _ (t .entries .given .1))); leaves = left n }
 
 same-length-2 : tie.Need-same-length-2
 same-length-2 c = search needs
@@ -66,7 +66,7 @@ banlothek-strike-spec =
     (tie.spec
     strike-requires
     enum-known-entries
-    accept-requires
+    count-entries-requires
     enum-known-refusal
     refuse-requires
     same-length

@@ -3,7 +3,7 @@ use borrow.Author.Needs.{needs}
 use mathlib.Core.Path.{_≡_, sym, ap, _∙_}
 use Rattle.bytes_le.proofs.Numbers.{Bytes}
 use Rattle.book.specs.declared.Delivered.{Delivered}
-use Rattle.book.specs.Calls.{Call}
+use Rattle.opening.specs.Calls.{Call}
 use Rattle.book.specs.Deliver.{Booking, delivered}
 use Rattle.book.specs.Deliver as rules
 use Rattle.banlothek.specs.Face.{ofDelivery}
@@ -34,23 +34,23 @@ module _ (c : tie.After-slice-known2) where
 deliver-requires : tie.Need-deliver-requires
 deliver-requires c κs = search needs
 
-enum-known-count : tie.Need-enum-known-count
-enum-known-count c = search needs
+enum-known-draw : tie.Need-enum-known-draw
+enum-known-draw c = search needs
 
 accept-requires : tie.Need-accept-requires
 accept-requires c κs =
     let t = c .before in
     let n = t .before .before in
-    delivery-fits _ _ (by n) (start n .args .serial) (start n .args .request) _ _ (comes n _ (t .count .given .1))
+    delivery-fits _ _ (by n) (start n .args .serial) (start n .args .request) _ _ (comes n _ (t .draw .given .1))
 
-enum-known-count-2 : tie.Need-enum-known-count-2
-enum-known-count-2 c = search needs
+enum-known-draw-2 : tie.Need-enum-known-draw-2
+enum-known-draw-2 c = search needs
 
 accept-requires-2 : tie.Need-accept-requires-2
 accept-requires-2 c κs =
     let t = c .before in
     let n = t .before .before in
-    delivery-fits _ _ (by n) (start n .args .serial) (start n .args .request) _ _ (comes n _ (t .count2 .given .1))
+    delivery-fits _ _ (by n) (start n .args .serial) (start n .args .request) _ _ (comes n _ (t .draw2 .given .1))
 
 enum-known-refusal : tie.Need-enum-known-refusal
 enum-known-refusal c = search needs
@@ -65,7 +65,7 @@ returns : tie.Need-returns
 returns c =
     let t = c .before .before in
     let n = t .before .before in
-    record { answers = c .accept .ensures ∙ sym (ap ofDelivery (comes n _ (t .count .given .1))); leaves = left n }
+    record { answers = c .accept .ensures ∙ sym (ap ofDelivery (comes n _ (t .draw .given .1))); leaves = left n }
 
 same-length-2 : tie.Need-same-length-2
 same-length-2 c = search needs
@@ -74,7 +74,7 @@ returns-2 : tie.Need-returns-2
 returns-2 c =
     let t = c .before .before in
     let n = t .before .before in
-    record { answers = c .accept2 .ensures ∙ sym (ap ofDelivery (comes n _ (t .count2 .given .1))); leaves = left n }
+    record { answers = c .accept2 .ensures ∙ sym (ap ofDelivery (comes n _ (t .draw2 .given .1))); leaves = left n }
 
 same-length-3 : tie.Need-same-length-3
 same-length-3 c = search needs
@@ -90,9 +90,9 @@ deliver-spec =
     tie.close
     (tie.spec
     deliver-requires
-    enum-known-count
+    enum-known-draw
     accept-requires
-    enum-known-count-2
+    enum-known-draw-2
     accept-requires-2
     enum-known-refusal
     refuse-requires

@@ -1,8 +1,8 @@
 -- `deliver` meets its contract: stopped by the first refusals, or delivered into a sound book. Assumes nothing.
 use borrow.Author.Needs.{needs}
 use mathlib.Core.Path.{sym, ap, _∙_}
-use Rattle.book.specs.Calls.{openedAs}
-use Rattle.book.proofs.Opening.{refused-opening, sound-opening}
+use Rattle.opening.specs.Calls.{openedAs}
+use Rattle.opening.proofs.Opening.{refused-opening, sound-opening}
 use Rattle.book.proofs.Delivering.{deliver-stopped}
 use Rattle.book.proofs.deliver.Statement.{statement}
 use Rattle.book.proofs.deliver.Tie as tie
@@ -13,14 +13,14 @@ open-book-requires c κs = search needs
 enum-known-refusal : tie.Need-enum-known-refusal
 enum-known-refusal c = search needs
 
-enum-known-entries : tie.Need-enum-known-entries
-enum-known-entries c = search needs
+enum-known-standing : tie.Need-enum-known-standing
+enum-known-standing c = search needs
 
 deliver-to-requires : tie.Need-deliver-to-requires
 deliver-to-requires c κs =
-    let at-entries = c .before .before in
-    let at-open = at-entries .before .before in
-    sound-opening _ _ _ _ (sym (ap openedAs (at-entries .entries .given .1)) ∙ at-open .open-book .ensures)
+    let at-standing = c .before .before in
+    let at-open = at-standing .before .before in
+    sound-opening _ _ _ _ (sym (ap openedAs (at-standing .standing .given .1)) ∙ at-open .open-book .ensures)
 
 same-length : tie.Need-same-length
 same-length c = search needs
@@ -45,7 +45,7 @@ deliver-spec =
     (tie.spec
     open-book-requires
     enum-known-refusal
-    enum-known-entries
+    enum-known-standing
     deliver-to-requires
     same-length
     returns

@@ -24,5 +24,5 @@ draw-spec =
     (λ c. as-asked _ (c .before .before .request .given .1) (c .sample .ensures))
     (λ c. as-asked _ (c .before .before .request2 .given .1) (c .sample-bits .ensures))
     (λ c. as-asked _ (c .before .before .request3 .given .1) (c .sample-bits2 .ensures))
-    (λ c. as-asked _ (c .before .enum-told .given .1) (c .sample-standard .ensures))
+    (λ c. as-asked _ (c .before .enum-told .given .1) (c .sample2 .ensures))
     )

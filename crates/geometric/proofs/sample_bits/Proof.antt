@@ -1,10 +1,12 @@
 -- `geometric::sample_bits` meets its contract: up to the bits of 1 it draws, and above them only those of -0.0 are a probability's. Assumes nothing.
 use borrow.Author.Needs.{needs}
 use mathlib.Core.Path.{_≡_, sym, ap, _∙_}
+use mathlib.Core.Bool.{false}
 use mathlib.Core.List.{[], _∷_}
 use Prim.Native.Nat.{_-_, _^_}
 use native.Mathlib.Omega.{arith}
 use lib.Ieee.{binary64, ofBits}
+use Rattle.words.specs.Words.{tooLong}
 use Rattle.words.specs.Refusals.{_on_, given}
 use Rattle.words.proofs.Patterns.{float-of-bits}
 use Rattle.words.proofs.Tape.{within-limit}
@@ -16,6 +18,15 @@ use Rattle.geometric.proofs.GeometricLaws.{bits-probability, sign-proba
 use Rattle.geometric.proofs.sample_bits.Statement.{statement}
 use Rattle.geometric.proofs.sample_bits.Tie as tie
 
+-- where the tape is not too long
+module _ (c : tie.Else1) where
+  -- the start of the call
+  abbrev start : tie.Start
+  start = c .before .before .before
+
+  within : tooLong (start .args .tape .now) ≡ false
+  within = sym (c .before .too-long .ensures) ∙ c .if1 .left
+
 too-long-requires : tie.Need-too-long-requires
 too-long-requires c κs = search needs
 
@@ -24,19 +35,19 @@ unfolding draw geometric
 returns c = simp (sym (c .before .too-long .ensures) ∙ c .if1 .taken)
 
 float-from-bits-sample-valid : tie.Need-float-from-bits-sample-valid
-float-from-bits-sample-valid c = float-of-bits (c .before .before .before .before .args .p) (omega arith)
+float-from-bits-sample-valid c = float-of-bits (start (c .before) .args .p) (omega arith)
 
 sample-valid-requires : tie.Need-sample-valid-requires
-sample-valid-requires c κs = within-limit _ (sym (c .before .before .too-long .ensures) ∙ c .before .if1 .left)
+sample-valid-requires c κs = within-limit _ (within (c .before))
 
 returns-2 : tie.Need-returns-2
 unfolding draw geometric
 returns-2 c =
-    let a = c .before .before .before .before .before .args in
+    let e = c .before .before in
+    let a = start e .args in
     let p = ofBits binary64 (a .p) in
-    let within = sym (c .before .before .before .too-long .ensures) ∙ c .before .before .if1 .left in
     c .sample-valid .ensures
-    ∙ simp (within, bits-probability (a .p) (omega arith))
+    ∙ simp (within e, bits-probability (a .p) (omega arith))
     (ap (λ o. given (9 on isTooRare p ∷ []) o) (sym (ends-same shorts (geometricReading p (a .tape .now)))))
 
 never-requires : tie.Need-never-requires
@@ -45,18 +56,17 @@ never-requires c κs = search needs
 returns-3 : tie.Need-returns-3
 unfolding draw geometric
 returns-3 c =
-    let a = c .before .before .before .before .before .before .args in
-    let within = sym (c .before .before .before .before .too-long .ensures) ∙ c .before .before .before .if1 .left in
+    let e = c .before .before .before in
+    let a = start e .args in
     let z = c .before .if3 .taken in
     c .never .ensures
-    ∙ simp (within, sign-probability (a .p) z, sign-not-rare (a .p) z, sign-never (a .p) (a .tape .now) z) (sym (ends-same shorts (drawn (2 ^ 64 - 1) 0)))
+    ∙ simp (within e, sign-probability (a .p) z, sign-not-rare (a .p) z, sign-never (a .p) (a .tape .now) z) (sym (ends-same shorts (drawn (2 ^ 64 - 1) 0)))
 
 returns-4 : tie.Need-returns-4
 unfolding draw geometric
 returns-4 c =
-    let p = c .before .before .before .before .before .args .p in
-    let within = sym (c .before .before .before .too-long .ensures) ∙ c .before .before .if1 .left in
-    simp (within, bits-not-probability p (omega arith) (omega arith) (λ e. omega arith))
+    let e = c .before .before in
+    simp (within e, bits-not-probability (start e .args .p) (omega arith) (omega arith) (λ e. omega arith))
 
 pub sample-bits-spec : {M : Type 1} → statement M
 sample-bits-spec =

@@ -46,31 +46,39 @@ add-used c = search needs
 fraction-requires : tie.Need-fraction-requires Inv-loop μ-loop
 fraction-requires c κs = search needs
 
--- the word that a turn reads
-there : (c : tie.After-known-told Inv-loop μ-loop) → wordAt (c .before .before .before .before .before .before .args .tape .now) (c .before .before .before .before .loop .failures) ≡ Is (c .before .w .given .0 .0)
-there c = sym (c .before .before .before .word-at .ensures) ∙ c .before .w .given .1
+-- where a turn has its word
+module _ (c : tie.After-known-told Inv-loop μ-loop) where
+  -- the way back to the loop
+  abbrev at-loop : tie.At-loop Inv-loop μ-loop
+  at-loop = c .before .before .before .before
+
+  -- the start of the call
+  abbrev start : tie.Start Inv-loop μ-loop
+  start = at-loop .before .before
+
+  -- the word that the turn reads
+  there : wordAt (start .args .tape .now) (at-loop .loop .failures) ≡ Is (c .before .w .given .0 .0)
+  there = sym (c .before .before .before .word-at .ensures) ∙ c .before .w .given .1
+
+  -- and so far the tape went on
+  below : at-loop .loop .failures < length (start .args .tape .now)
+  below = word-there _ _ _ there .0
 
 -- a turn has read its fraction, and stands before its judgement
 turn : (c : tie.After-fraction Inv-loop μ-loop) →
-    let l = c .before .before .before .before .before .loop in
-    let a = c .before .before .before .before .before .before .before .args in
+    let l = at-loop (c .before) .loop in
+    let a = start (c .before) .args in
     reading (trivialRule (a .p)) (a .tape .now)
     ≡ read (trivialRule (a .p)) (drop (l .failures + 1) (a .tape .now)) (cond (le (c .fraction .result) (a .p)) (done (l .failures)) (more (l .failures + 1))) (l .failures + 1)
 turn c =
     let k = c .before in
-    let l = k .before .before .before .before .loop in
-    let a = k .before .before .before .before .before .before .args in
+    let l = at-loop k .loop in
+    let a = start k .args in
     l .inv .1 ∙ read-at (trivialRule (a .p)) (a .tape .now) (l .failures) (k .before .w .given .0 .0) (l .failures) (l .failures) (there k)
     ∙ simp (← c .fraction .ensures)
 
 returns-2 : tie.Need-returns-2 Inv-loop μ-loop
-returns-2 c =
-    let a = c .before .before .before .before .before .before .before .before .args in
-    sym (turn (c .before) ∙ simp (c .if1 .taken, read-done (trivialRule (a .p))))
-
--- and so far the tape went on
-below : (c : tie.After-known-told Inv-loop μ-loop) → c .before .before .before .before .loop .failures < length (c .before .before .before .before .before .before .args .tape .now)
-below c = word-there _ _ _ (there c) .0
+returns-2 c = sym (turn (c .before) ∙ simp (c .if1 .taken, read-done (trivialRule (start (c .before .before) .args .p))))
 
 loop-less : tie.Need-loop-less Inv-loop μ-loop
 loop-less c = let h = below (c .before .before) in omega arith

@@ -5,10 +5,11 @@ use mathlib.Core.Bool.{true, false}
 use lib.Ieee.{binary64, ofBits, round, lt}
 use lib.Ieee.Fits.{sub-fits}
 use Rattle.words.specs.Words.{ratio}
-use Rattle.geometric.specs.Squares.{half, squares}
+use Rattle.search.specs.Squares.{half, squares}
 use Rattle.geometric.specs.Geometric.{isLarge, qOf, isNever, geometricReading, isTooRare}
-use Rattle.geometric.proofs.Squarings.{squares-least}
-use Rattle.geometric.proofs.Edge.{mostQ, not-too-rare, too-rare, quarter-left}
+use Rattle.search.proofs.Squarings.{squares-least}
+use Rattle.search.proofs.Edge.{mostQ, not-too-rare, too-rare, quarter-left}
+use Rattle.geometric.proofs.GeometricLaws.{search-given}
 use Rattle.geometric.proofs.sample_valid.Statement.{statement}
 use Rattle.geometric.proofs.sample_valid.Tie as tie
 
@@ -71,13 +72,13 @@ sample-search-requires c κs =
     (rw (k-is c) (squares-least (qOf (s .args .p)) .most), s .pre)
 
 returns-4 : tie.Need-returns-4
-unfolding geometricReading isTooRare qOf ofBits round
+unfolding qOf ofBits round
 returns-4 c =
     let k = c .before in
     let e = k .before in
+    let p = e .before .before .before .before .args .p in
     let r = in-range e in
-    let often-enough = not-too-rare (qOf (e .before .before .before .before .args .p)) (r .0) (r .1) in
-    c .sample-search .ensures ∙ simp (small (e .before .before), often (e .before), often-enough, ← pi-is k, ← k-is k)
+    search-given p _ (small (e .before .before)) (often (e .before)) (not-too-rare (qOf p) (r .0) (r .1)) _ _ (k-is k) (pi-is k) _ (c .sample-search .ensures)
 
 pub sample-valid-spec : {M : Type 1} → statement M
 sample-valid-spec =

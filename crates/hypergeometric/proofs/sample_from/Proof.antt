@@ -1,16 +1,18 @@
 -- `hypergeometric::sample_from` meets its contract. Assumes nothing.
 use borrow.Author.Needs.{needs}
-use mathlib.Core.Path.{sym, _∙_, subst}
-use Prim.Native.Nat.{ℕ, _≤_, min}
+use mathlib.Core.Path.{sym, _∙_}
 use Rattle.words.specs.Rule.{reading}
 use Rattle.words.proofs.Reading.{read-done, read-at, read-end}
 use Rattle.words.specs.Draw.{shorts, draw}
 use Rattle.words.proofs.Short.{ends-same}
 use Rattle.hypergeometric.specs.Hypergeometric.{counted, inversionRule}
-use Rattle.hypergeometric.proofs.Walks.{inverted≤}
-use Rattle.hypergeometric.proofs.Settling.{kept-small, kept-lands}
+use Rattle.hypergeometric.proofs.Kept.{kept-small, inverted-lands}
 use Rattle.hypergeometric.proofs.sample_from.Statement.{statement}
 use Rattle.hypergeometric.proofs.sample_from.Tie as tie
+
+-- the way back from where the word was read
+abbrev start : tie.After-word-at → tie.Start
+start c = c .before .before .before .before
 
 too-long-requires : tie.Need-too-long-requires
 too-long-requires c κs = search needs
@@ -31,7 +33,7 @@ enum-told c = search needs
 returns-2 : tie.Need-returns-2
 unfolding draw
 returns-2 c =
-    let a = c .before .before .before .before .before .before .args in
+    let a = start (c .before .before) .args in
     let e = sym (c .before .before .word-at .ensures) ∙ c .enum-told .given .1 in
     let o = reading (inversionRule (a .kept)) (a .tape .now) in
     simp (sym (c .before .before .before .before .too-long .ensures) ∙ c .before .before .before .if1 .left)
@@ -41,20 +43,18 @@ fraction-requires : tie.Need-fraction-requires
 fraction-requires c κs = search needs
 
 invert-requires : tie.Need-invert-requires
-invert-requires c κs = let s = c .before .before .before .before .before .before .before .before in kept-small (s .args .kept) (s .pre)
+invert-requires c κs = let s = start (c .before .before .before .before) in kept-small (s .args .kept) (s .pre)
 
 land-requires : tie.Need-land-requires
 land-requires c κs =
-    let s = c .before .before .before .before .before .before .before .before .before in
-    let h = s .args .kept in
-    kept-lands h (s .pre) (c .invert .result)
-    (subst (λ (x : ℕ). x ≤ min (h .n1) (h .k)) (sym (c .invert .ensures)) (inverted≤ (h .n1) (h .n2) (h .k) (h .first) (c .before .fraction .result)))
+    let s = start (c .before .before .before .before .before) in
+    inverted-lands (s .args .kept) (s .pre) _ _ (c .invert .ensures)
 
 returns-3 : tie.Need-returns-3
 unfolding draw counted
 returns-3 c =
     let t = c .before .before .before .before in
-    let s = t .before .before .before .before .before .before in
+    let s = start (t .before .before) in
     let r = inversionRule (s .args .kept) in
     let ws = s .args .tape .now in
     let w = t .w .given .0 .0 in

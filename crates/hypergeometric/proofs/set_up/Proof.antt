@@ -4,7 +4,7 @@ use borrow.Author.Tests.{lt-ltb, le-ltb}
 use mathlib.Core.Path.{sym, _∙_, subst}
 use native.Mathlib.Omega.{arith}
 use Rattle.hypergeometric.specs.declared.Reduced.{Reduced}
-use Rattle.hypergeometric.specs.Hypergeometric.{setUp, isTaken, trayRefusals, settled}
+use Rattle.hypergeometric.specs.SetUp.{setUp, isTaken, trayRefusals, settled}
 use Rattle.hypergeometric.proofs.Settling.{Sizes, sizes}
 use Rattle.hypergeometric.proofs.set_up.Statement.{statement}
 use Rattle.hypergeometric.proofs.set_up.Tie as tie
@@ -51,7 +51,7 @@ mul-if4-2 c = search needs
 first-probability-requires : tie.Need-first-probability-requires
 first-probability-requires c κs =
     let z = given-sizes (c .before .before .before) in
-    (c .before .before .before .before .if3 .left, z .n1≤, z .n2≤, z .k≤)
+    (omega (arith, c .before .before .before .before .if3 .left), z .n1≤, z .n2≤, z .k≤)
 
 with-first-requires : tie.Need-with-first-requires
 with-first-requires c κs = search needs

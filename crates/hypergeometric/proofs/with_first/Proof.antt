@@ -4,7 +4,7 @@ use mathlib.Core.Path.{_≡_, sym, ap, _∙_}
 use mathlib.Core.Bool.{true, not}
 use mathlib.Core.Logic.{⊎-elim}
 use lib.Ieee.{ofBits, round}
-use Rattle.hypergeometric.specs.Hypergeometric.{zeroOrNotFinite}
+use Rattle.hypergeometric.specs.SetUp.{zeroOrNotFinite}
 use Rattle.hypergeometric.proofs.with_first.Statement.{statement}
 use Rattle.hypergeometric.proofs.with_first.Tie as tie
 

@@ -41,16 +41,24 @@ returns c = search needs
 enum-known-n : tie.Need-enum-known-n Inv-loop μ-loop
 enum-known-n c = search needs
 
--- one more read: n bytes more, and the buffer as long as it was
-within : (c : tie.Else1 Inv-loop μ-loop)
-    → c .before .before .before .before .before .before .before .before .before .loop .have + c .before .before .n .given .0 .0
-    ≤ length (c .before .before .before .before .before .before .before .before .before .loop .buf)
-within c =
-    let read = c .before .before .before .before .before .before in
-    let l = read .before .before .before .loop in
-    let n = c .before .before .n .given in
-    let g : n .0 .0 ≤ length (read .read-some .last .1 .0) = subst (Within (length (read .read-some .last .1 .0))) (n .1) (read .read-some .ensures) in
-    omega (arith, g, c .before .before .before .before .before .buf .given .0, length-take (length (l .buf) - l .have) (drop (l .have) (l .buf)), length-drop (l .have) (l .buf))
+-- where a read brought some bytes
+module _ (c : tie.Else1 Inv-loop μ-loop) where
+  -- the buffer after that read
+  abbrev at-buf : tie.After-buf Inv-loop μ-loop
+  at-buf = c .before .before .before .before .before
+
+  -- the way back to the loop
+  abbrev at-loop : tie.At-loop Inv-loop μ-loop
+  at-loop = at-buf .before .before .before .before
+
+  -- one more read: n bytes more, and the buffer as long as it was
+  within : at-loop .loop .have + c .before .before .n .given .0 .0 ≤ length (at-loop .loop .buf)
+  within =
+      let read = at-buf .before .read-some in
+      let l = at-loop .loop in
+      let n = c .before .before .n .given in
+      let g : n .0 .0 ≤ length (read .last .1 .0) = subst (Within (length (read .last .1 .0))) (n .1) (read .ensures) in
+      omega (arith, g, at-buf .buf .given .0, length-take (length (l .buf) - l .have) (drop (l .have) (l .buf)), length-drop (l .have) (l .buf))
 
 add-have : tie.Need-add-have Inv-loop μ-loop
 add-have c = let w = within c in search needs
@@ -61,7 +69,7 @@ loop-less c = search needs
 loop-again : tie.Need-loop-again Inv-loop μ-loop
 loop-again c =
     let w = within c in
-    let g = c .before .before .before .before .before .buf .given .1 in
+    let g = at-buf c .buf .given .1 in
     (omega (arith, w, g), omega (arith, g))
 
 same-length-2 : tie.Need-same-length-2 Inv-loop μ-loop

@@ -1,6 +1,5 @@
 -- `judge::is_same` meets its contract, by what the two did. Assumes nothing.
 use borrow.Author.Needs.{needs}
-use borrow.Author.Tests.{eq-eqb, ne-eqb}
 use Rattle.judge.proofs.is_same.Statement.{statement}
 use Rattle.judge.proofs.is_same.Tie as tie
 
@@ -9,6 +8,9 @@ enum-known-here c = search needs
 
 enum-known-rust : tie.Need-enum-known-rust
 enum-known-rust c = search needs
+
+is-same-draw-requires : tie.Need-is-same-draw-requires
+is-same-draw-requires c κs = search needs
 
 enum-told : tie.Need-enum-told
 enum-told c = search needs
@@ -27,24 +29,19 @@ number-requires c κs = search needs
 
 returns : tie.Need-returns
 returns c =
-    let h = c .before .before .before .before .before .here .given in
-    let r = c .before .before .rust .given in
-    rw (h .1, r .1, eq-eqb (h .0 .0) (r .0 .0) (c .if1 .taken))
+    let r = c .before .before in
+    rw (r .before .before .before .here .given .1, r .rust .given .1) (c .is-same-draw .ensures)
 
 returns-2 : tie.Need-returns-2
-returns-2 c =
-    let h = c .before .before .before .before .before .here .given in
-    let r = c .before .before .rust .given in
-    rw (h .1, r .1, ne-eqb (h .0 .0) (r .0 .0) (c .if1 .left))
+returns-2 c = search needs
 
 returns-3 : tie.Need-returns-3
-returns-3 c = search needs
+returns-3 c = rw (c .before .before .before .here2 .given .1, c .enum-told2 .given .1)
 
 returns-4 : tie.Need-returns-4
-returns-4 c = rw (c .before .before .before .here2 .given .1, c .enum-told2 .given .1)
-
-returns-5 : tie.Need-returns-5
-returns-5 c = rw (c .before .before .before .before .before .here2 .given .1, c .before .before .rust2 .given .1, c .number .ensures)
+returns-4 c =
+    let r = c .before .before in
+    rw (r .before .before .before .here2 .given .1, r .rust2 .given .1, c .number .ensures)
 
 pub is-same-spec : {M : Type 1} → statement M
 is-same-spec =
@@ -52,6 +49,7 @@ is-same-spec =
     (tie.spec
     enum-known-here
     enum-known-rust
+    is-same-draw-requires
     enum-told
     enum-known-here-2
     enum-told-2
@@ -60,5 +58,4 @@ is-same-spec =
     returns
     returns-2
     returns-3
-    returns-4
-    returns-5)
+    returns-4)

@@ -29,21 +29,31 @@ enum-known-rust c = search needs
 is-outside-requires : tie.Need-is-outside-requires
 is-outside-requires c κs = search needs
 
--- entry one's test of two draws: the Rust's count is outside, and as many words were used
-abbrev test : tie.After-is-outside → Bool
-test c =
-    let here = c .before .before .before .before .before .here2 .given .0 in
-    let rust = c .before .before .rust .given .0 in
-    isOutside (c .before .before .before .before .before .before .before .args .request) (rust .0) && eqb (here .1 .0) (rust .1 .0)
+-- where both drew
+module _ (c : tie.After-is-outside) where
+  -- the Rust's draw, and the one here
+  abbrev at-rust : tie.After-rust
+  at-rust = c .before .before
+
+  abbrev at-here : tie.After-here2
+  at-here = at-rust .before .before .before
+
+  -- entry one's test of two draws: the Rust's count is outside, and as many words were used
+  abbrev test : Bool
+  test =
+      let rust = at-rust .rust .given .0 .0 in
+      isOutside (at-here .before .before .args .request) (rust .count) && eqb (at-here .here2 .given .0 .0 .used) (rust .used)
 
 -- where both halves of it hold, it does
-both : (c : tie.Then2) → test (c .before .before) ≡ true
-both c = rw (sym (c .before .before .is-outside .ensures) ∙ c .before .if1 .taken, c .if2 .taken)
+both : (c : tie.Then2) → test (c .before .before .before .before) ≡ true
+both c =
+    let t = c .before .before .before in
+    rw (sym (t .before .is-outside .ensures) ∙ t .if1 .taken, c .if2 .taken)
 
 -- where either half fails, it does
 not-both : (c : tie.Joined1) → test (c .before) ≡ false
 not-both c =
-    ⊎-elim (λ w. rw (w .1 .left, and-false)) (λ w. rw (sym (c .before .is-outside .ensures) ∙ w .left)) (c .if1 .came)
+    ⊎-elim (λ w. rw (w .3 .left, and-false)) (λ w. rw (sym (c .before .is-outside .ensures) ∙ w .left)) (c .if1 .came)
 
 returns : tie.Need-returns
 returns c = rw (c .before .before .before .here .given .1) (c .by-refusal .ensures ∙ ap byRefusal (c .before .number .ensures))
@@ -53,13 +63,13 @@ returns-2 c = search needs
 
 returns-3 : tie.Need-returns-3
 returns-3 c =
-    let o = c .before .before in
-    rw (o .before .before .before .before .before .here2 .given .1, o .before .before .rust .given .1, both c)
+    let o = c .before .before .before .before in
+    rw (at-here o .here2 .given .1, at-rust o .rust .given .1, both c)
 
 returns-4 : tie.Need-returns-4
 returns-4 c =
     let o = c .before in
-    rw (o .before .before .before .before .before .here2 .given .1, o .before .before .rust .given .1, not-both c)
+    rw (at-here o .here2 .given .1, at-rust o .rust .given .1, not-both c)
 
 pub set-apart-spec : {M : Type 1} → statement M
 set-apart-spec =

@@ -16,15 +16,15 @@ all-zero-requires c κs = search needs
 
 returns-2 : tie.Need-returns-2
 returns-2 c =
-    let a = c .before .before .before .before .args in
-    ap (λ (z : Bool). cond z (Sound (a .entries) (a .at) (a .place)) Damaged) (sym (c .if2 .taken))
-    ∙ closed-by (a .words) (a .place) (drop (a .at) (a .book .now)) _ _ (c .before .before .if1 .left) (c .before .all-zero .ensures)
+    let a = c .before .before .before .before .before .args in
+    ap (λ (z : Bool). cond z (Sound (a .standing)) Damaged) (sym (c .if2 .taken))
+    ∙ closed-by (a .words) (a .standing .place) (drop (a .standing .end) (a .book .now)) _ _ (c .before .before .if1 .left) (c .before .all-zero .ensures)
 
 returns-3 : tie.Need-returns-3
 returns-3 c =
-    let a = c .before .before .before .before .args in
-    ap (λ (z : Bool). cond z (Sound (a .entries) (a .at) (a .place)) Damaged) (sym (c .if2 .left))
-    ∙ closed-by (a .words) (a .place) (drop (a .at) (a .book .now)) _ _ (c .before .before .if1 .left) (c .before .all-zero .ensures)
+    let a = c .before .before .before .before .before .args in
+    ap (λ (z : Bool). cond z (Sound (a .standing)) Damaged) (sym (c .if2 .left))
+    ∙ closed-by (a .words) (a .standing .place) (drop (a .standing .end) (a .book .now)) _ _ (c .before .before .if1 .left) (c .before .all-zero .ensures)
 
 pub closed-spec : {M : Type 1} → statement M
 closed-spec = tie.close (tie.spec returns all-zero-requires returns-2 returns-3)

@@ -12,8 +12,13 @@ use Rattle.layout.proofs.head_at.Tie as tie
 
 -- where the length lies within what is left: `head` by the tests that are still to come
 module _ (c : tie.Else3) where
+  -- what is known of the bytes
+  abbrev known : tie.After-shared-slice-known
+  known = c .before .before .before .before
+
+  -- the start of the call
   abbrev start : tie.Start
-  start = c .before .before .before .before .before
+  start = known .before
 
   abbrev book : List ℕ
   book = start .args .book .now
@@ -75,8 +80,9 @@ read-le-requires-2 c κs = search needs
 
 cast-length-by : tie.Need-cast-length-by
 cast-length-by c =
-    let a = start (c .before .before) .args in
-    let by : Bytes (a .book .now) = λ j. (c .before .before .before .before .before .before .shared-slice-known .given j) .fits in
+    let m = c .before .before in
+    let a = start m .args in
+    let by : Bytes (a .book .now) = λ j. (known m .shared-slice-known .given j) .fits in
     omega (arith, c .read-le2 .ensures, spelled-lt 2 (drop (a .at + 2) (a .book .now)) (bytes-drop (a .book .now) (a .at + 2) by))
 
 length-by-requires : tie.Need-length-by-requires

@@ -3,7 +3,6 @@ use borrow.Author.Needs.{needs}
 use mathlib.Core.Path.{_≡_, refl, ap, _∙_}
 use Prim.Native.Nat.{_-_, _≤_}
 use native.Mathlib.Omega.{arith}
-use Rattle.layout.specs.Entry.{lengthAt}
 use Rattle.layout.specs.Sound.{offset}
 use Rattle.layout.proofs.Walking.{offset-next}
 use Rattle.layout.proofs.offset_of.Statement.{statement}
@@ -19,18 +18,9 @@ loop-holds : tie.Need-loop-holds Inv-loop μ-loop
 unfolding offset
 loop-holds c = (search needs, refl)
 
-read-le-requires : tie.Need-read-le-requires Inv-loop μ-loop
-read-le-requires c κs =
-    let l = c .before .loop in
-    (search needs, omega (arith, l .inv .1, c .before .before .before .pre (l .i) (search needs) .0))
-
-add-at : tie.Need-add-at Inv-loop μ-loop
+next-at-requires : tie.Need-next-at-requires Inv-loop μ-loop
 unfolding offset
-add-at c =
-    let l = c .before .before .loop in
-    let s = c .before .before .before .before in
-    let e : c .read-le .result ≡ lengthAt (s .args .book .now) (offset (s .args .book .now) (l .i)) = c .read-le .ensures ∙ ap (lengthAt (s .args .book .now)) (l .inv .1) in
-    omega (arith, e, l .inv .1, s .pre (l .i) (search needs) .1)
+next-at-requires c κs = let l = c .before .loop in rw (l .inv .1) (c .before .before .before .pre (l .i) (search needs))
 
 add-i : tie.Need-add-i Inv-loop μ-loop
 add-i c = search needs
@@ -41,7 +31,7 @@ loop-less c = omega arith
 loop-again : tie.Need-loop-again Inv-loop μ-loop
 loop-again c =
     let l = c .before .before .loop in
-    (search needs, offset-next _ (l .at) (l .i) _ (l .inv .1) (c .read-le .ensures))
+    (search needs, c .next-at .ensures ∙ offset-next _ (l .at) (l .i) _ (l .inv .1) refl)
 
 returns : tie.Need-returns Inv-loop μ-loop
 returns c =
@@ -51,4 +41,4 @@ returns c =
     l .inv .1 ∙ ap (offset (a .book .now)) e
 
 pub offset-of-spec : {M : Type 1} → statement M
-offset-of-spec = tie.close (tie.spec Inv-loop μ-loop loop-holds read-le-requires add-at add-i loop-less loop-again returns)
+offset-of-spec = tie.close (tie.spec Inv-loop μ-loop loop-holds next-at-requires add-i loop-less loop-again returns)

@@ -1,4 +1,4 @@
--- `walk` meets its contract on any bytes: what is left to tell from here is the whole. Each entry takes 24 bytes or more, so the walk ends,
+-- `walk` meets its contract on any bytes: what is left to tell from here is the whole. Each entry takes its fixed fields or more, so the walk ends,
 -- and the place that an entry was tested for fits 32 bits, so no sum of used wraps. Assumes nothing.
 use borrow.Author.Needs.{needs}
 use mathlib.Core.Path.{_≡_, sym, _∙_}
@@ -7,17 +7,18 @@ use Prim.Native.Nat.{ℕ, _+_, _-_, _*_, _^_, _≤_, _<_}
 use native.Mathlib.Omega.{arith}
 use lib.ListN.{length, drop}
 use Rattle.bytes_le.proofs.Numbers.{Bytes, bytes-drop, spelled-lt}
-use Rattle.layout.specs.declared.Head.the-variants.{End, Damage, Next}
-use Rattle.layout.specs.Entry.{lengthAt, usedAt}
+use Rattle.kinds.specs.Kinds.{fixedLength}
+use Rattle.layout.specs.declared.Head.the-variants.{Next}
+use Rattle.entry.specs.Entry.{lengthAt, usedAt}
 use Rattle.layout.specs.Book.{head}
 use Rattle.layout.specs.Walk.{walked}
-use Rattle.layout.proofs.Walking.{rest, walk-start, rest-end, rest-damage, next-room, next-place, rest-next}
+use Rattle.layout.proofs.Walking.{rest, walk-start, walk-ended, walk-damaged, next-room, next-place, rest-next}
 use Rattle.layout.proofs.walk.Statement.{statement}
 use Rattle.layout.proofs.walk.Tie as tie
 
 abbrev Inv-loop : tie.InvT-loop
 Inv-loop book words at₀ entries₀ place₀ at entries place =
-    (at ≤ length book) × (24 * entries ≤ at) × (place < 2 ^ 33) × (rest words book at entries place ≡ walked words book)
+    (at ≤ length book) × (fixedLength * entries ≤ at) × (place < 2 ^ 33) × (rest words book at entries place ≡ walked words book)
 
 abbrev μ-loop : tie.MeasureT-loop
 μ-loop book words at₀ entries₀ place₀ at entries place = length book - at
@@ -45,7 +46,7 @@ module _ (c : tie.After-enum-told3 Inv-loop μ-loop) where
   found : Next ≡ head (entries + 1) place (drop at book)
   found = sym (c .enum-told3 .given .1) ∙ c .before .before .head-at .ensures
 
-  room : (24 ≤ lengthAt book at) × (lengthAt book at ≤ length book - at)
+  room : (fixedLength ≤ lengthAt book at) × (lengthAt book at ≤ length book - at)
   room = next-room words book at entries place found
 
   low : place < 2 ^ 32
@@ -72,22 +73,16 @@ closed-requires c κs = search needs
 returns : tie.Need-returns Inv-loop μ-loop
 returns c =
     let at-end = c .before in
-    let at-loop = at-end .before .before .before in
-    let a = at-loop .before .before .args in
-    let l = at-loop .loop in
-    let h : End ≡ head (l .entries + 1) (l .place) (drop (l .at) (a .book .now)) = sym (at-end .enum-told .given .1) ∙ at-end .before .before .head-at .ensures in
-    c .closed .ensures ∙ sym (rest-end (a .words) (a .book .now) (l .at) (l .entries) (l .place) h) ∙ l .inv .3
+    let l = at-end .before .before .before .loop in
+    walk-ended _ _ (l .at) (l .entries) (l .place) (l .inv .3) _ (at-end .enum-told .given .1) (at-end .before .before .head-at .ensures) _ (c .closed .ensures)
 
 enum-told-2 : tie.Need-enum-told-2 Inv-loop μ-loop
 enum-told-2 c = search needs
 
 returns-2 : tie.Need-returns-2 Inv-loop μ-loop
 returns-2 c =
-    let at-loop = c .before .before .before in
-    let a = at-loop .before .before .args in
-    let l = at-loop .loop in
-    let h : Damage ≡ head (l .entries + 1) (l .place) (drop (l .at) (a .book .now)) = sym (c .enum-told2 .given .1) ∙ c .before .before .head-at .ensures in
-    sym (rest-damage (a .words) (a .book .now) (l .at) (l .entries) (l .place) h) ∙ l .inv .3
+    let l = c .before .before .before .loop in
+    walk-damaged _ _ (l .at) (l .entries) (l .place) (l .inv .3) _ (c .enum-told2 .given .1) (c .before .before .head-at .ensures)
 
 enum-told-3 : tie.Need-enum-told-3 Inv-loop μ-loop
 enum-told-3 c = search needs

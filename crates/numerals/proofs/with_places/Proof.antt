@@ -15,17 +15,23 @@ use Rattle.numerals.proofs.with_places.Tie as tie
 
 -- where the digits were read: the number before the point, those digits, and all as one number
 module _ (c : tie.After-all) where
+  abbrev went-on : tie.After-go-on
+  went-on = c .before .before
+
+  abbrev start : tie.Start
+  start = went-on .before .before .before .before
+
   abbrev whole : ℕ
-  whole = c .before .before .before .before .before .before .args .whole
+  whole = start .args .whole
 
   abbrev places : List ℕ
-  places = c .before .before .before .before .before .before .args .places .now
+  places = start .args .places .now
 
   abbrev all : ℕ
   all = c .all .given .0 .0
 
   read : continued 10 whole mostWhole places ≡ Is all
-  read = sym (c .before .before .go-on .ensures) ∙ c .all .given .1
+  read = sym (went-on .go-on .ensures) ∙ c .all .given .1
 
 returns : tie.Need-returns
 returns c = sym (placed-empty _ _ (c .if1 .taken))

@@ -18,6 +18,16 @@ Inv-loop tape T first result₀ p₀ result p =
 abbrev μ-loop : tie.MeasureT-loop
 μ-loop tape T first result₀ p₀ result p = length tape - result
 
+-- where the first word has its fraction
+module _ (c : tie.After-fraction Inv-loop μ-loop) where
+  -- the way back to that word
+  abbrev at-first : tie.After-word-at Inv-loop μ-loop
+  at-first = c .before .before .before .before
+
+  -- the start of the call
+  abbrev start : tie.Start Inv-loop μ-loop
+  start = at-first .before .before
+
 word-at-requires : tie.Need-word-at-requires Inv-loop μ-loop
 word-at-requires c κs = search needs
 
@@ -37,9 +47,9 @@ fraction-requires c κs = search needs
 
 loop-holds : tie.Need-loop-holds Inv-loop μ-loop
 loop-holds c =
-    let a = c .before .before .before .before .before .before .args in
+    let a = start c .args in
     let w = c .before .before .first .given .0 .0 in
-    let e = sym (c .before .before .before .before .word-at .ensures) ∙ c .before .before .first .given .1 in
+    let e = sym (at-first c .word-at .ensures) ∙ c .before .before .first .given .1 in
     (word-there (a .tape .now) 0 w e .0, read-at (knuthRule (a .exp-lambda)) (a .tape .now) 0 w none 0 e ∙ simp (← c .fraction .ensures))
 
 add-word-at : tie.Need-add-word-at Inv-loop μ-loop
@@ -56,10 +66,11 @@ enum-told-2 c = search needs
 
 returns-2 : tie.Need-returns-2 Inv-loop μ-loop
 returns-2 c =
-    let a = c .before .before .before .before .before .before .before .before .before .before .before .args in
-    let l = c .before .before .before .before .loop in
+    let t = c .before .before .before in
+    let a = start (t .before .before) .args in
+    let l = t .before .loop in
     let e = sym (c .before .before .word-at2 .ensures) ∙ c .enum-told2 .given .1 in
-    sym (l .inv .1 ∙ simp (c .before .before .before .loop-test .taken) (read-end (knuthRule (a .exp-lambda)) (a .tape .now) (l .result + 1) (product (l .p) (l .result)) (l .result + 1) e))
+    sym (l .inv .1 ∙ simp (t .loop-test .taken) (read-end (knuthRule (a .exp-lambda)) (a .tape .now) (l .result + 1) (product (l .p) (l .result)) (l .result + 1) e))
 
 fraction-requires-2 : tie.Need-fraction-requires-2 Inv-loop μ-loop
 fraction-requires-2 c κs = search needs
@@ -72,20 +83,21 @@ loop-less c = search needs
 
 loop-again : tie.Need-loop-again Inv-loop μ-loop
 loop-again c =
-    let a = c .before .before .before .before .before .before .before .before .before .before .before .before .before .args in
-    let l = c .before .before .before .before .before .before .loop in
+    let r = c .before .before .before .before in
+    let t = r .before in
+    let a = start (t .before .before) .args in
+    let l = t .before .loop in
     let w = c .before .before .w .given .0 .0 in
-    let e = sym (c .before .before .before .before .word-at2 .ensures) ∙ c .before .before .w .given .1 in
-    (word-there (a .tape .now) (l .result + 1) w e .0, l .inv .1 ∙ simp (c .before .before .before .before .before .loop-test .taken) (read-at (knuthRule (a .exp-lambda)) (a .tape .now) (l .result + 1) w (product (l .p) (l .result)) (l .result + 1) e ∙ simp (← c .fraction2 .ensures)))
+    let e = sym (r .word-at2 .ensures) ∙ c .before .before .w .given .1 in
+    (word-there (a .tape .now) (l .result + 1) w e .0, l .inv .1 ∙ simp (t .loop-test .taken) (read-at (knuthRule (a .exp-lambda)) (a .tape .now) (l .result + 1) w (product (l .p) (l .result)) (l .result + 1) e ∙ simp (← c .fraction2 .ensures)))
 
 add-used : tie.Need-add-used Inv-loop μ-loop
 add-used c = search needs
 
 returns-3 : tie.Need-returns-3 Inv-loop μ-loop
 returns-3 c =
-    let a = c .before .before .before .before .before .before .before .before .args in
-    let l = c .before .loop in
-    sym (l .inv .1 ∙ simp (c .loop-test .left, read-done (knuthRule (a .exp-lambda))))
+    let l = c .before in
+    sym (l .loop .inv .1 ∙ simp (c .loop-test .left, read-done (knuthRule (start (l .before) .args .exp-lambda))))
 
 pub knuth-method-spec : {M : Type 1} → statement M
 knuth-method-spec =

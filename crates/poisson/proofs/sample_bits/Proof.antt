@@ -1,8 +1,10 @@
 -- `poisson::sample_bits` meets its contract: the bits are in their range exactly where the float is. Assumes nothing.
 use borrow.Author.Needs.{needs}
-use mathlib.Core.Path.{sym, _∙_}
+use mathlib.Core.Path.{_≡_, sym, _∙_}
+use mathlib.Core.Bool.{false}
 use native.Mathlib.Omega.{arith}
 use lib.Ieee.{binary64, ofBits}
+use Rattle.words.specs.Words.{tooLong}
 use Rattle.words.specs.Rule.{reading}
 use Rattle.words.proofs.Patterns.{float-of-bits}
 use Rattle.words.specs.Draw.{shorts, draw}
@@ -11,6 +13,15 @@ use Rattle.poisson.specs.Poisson.{knuthRule, poisson}
 use Rattle.poisson.proofs.Laws.{bits-inside, bits-below, bits-above}
 use Rattle.poisson.proofs.sample_bits.Statement.{statement}
 use Rattle.poisson.proofs.sample_bits.Tie as tie
+
+-- where the tape is not too long
+module _ (c : tie.Else1) where
+  -- the start of the call
+  abbrev start : tie.Start
+  start = c .before .before .before
+
+  within : tooLong (start .args .tape .now) ≡ false
+  within = sym (c .before .too-long .ensures) ∙ c .if1 .left
 
 too-long-requires : tie.Need-too-long-requires
 too-long-requires c κs = search needs
@@ -28,25 +39,21 @@ knuth-method-requires c κs = search needs
 returns-2 : tie.Need-returns-2
 unfolding draw poisson
 returns-2 c =
-    let a = c .before .before .before .before .before .before .args in
-    let within = sym (c .before .before .before .before .too-long .ensures) ∙ c .before .before .before .if1 .left in
+    let e = c .before .before .before in
+    let a = start e .args in
     c .knuth-method .ensures
-    ∙ simp (within, bits-inside (a .exp-lambda) (omega arith) (omega arith))
+    ∙ simp (within e, bits-inside (a .exp-lambda) (omega arith) (omega arith))
     (sym (ends-same shorts (reading (knuthRule (ofBits binary64 (a .exp-lambda))) (a .tape .now))))
 
 returns-3 : tie.Need-returns-3
 unfolding draw poisson
 returns-3 c =
-    let bits = c .before .before .before .before .before .args .exp-lambda in
-    let within = sym (c .before .before .before .too-long .ensures) ∙ c .before .before .if1 .left in
-    simp (within, bits-above bits (omega arith) (omega arith))
+    let e = c .before .before in
+    simp (within e, bits-above (start e .args .exp-lambda) (omega arith) (omega arith))
 
 returns-4 : tie.Need-returns-4
 unfolding draw poisson
-returns-4 c =
-    let bits = c .before .before .before .before .args .exp-lambda in
-    let within = sym (c .before .before .too-long .ensures) ∙ c .before .if1 .left in
-    simp (within, bits-below bits (omega arith))
+returns-4 c = simp (within (c .before), bits-below (start (c .before) .args .exp-lambda) (omega arith))
 
 pub sample-bits-spec : {M : Type 1} → statement M
 sample-bits-spec =

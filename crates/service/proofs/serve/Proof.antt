@@ -43,16 +43,18 @@ same-length c = search needs
 
 returns : tie.Need-returns
 returns c =
-    let m = c .before .before .before .before .before .before in
-    line-met _ _ _ _ _ _ _ _ _ _ (sym (m .before .before .read .ensures) ∙ m .serial .given .1) (c .before .before .deliver .ensures)
+    let at-deliver = c .before .before in
+    let m = at-deliver .before .before .before .before in
+    line-met _ _ _ _ _ _ _ _ _ _ (sym (m .before .before .read .ensures) ∙ m .serial .given .1) (at-deliver .deliver .ensures)
 
 same-length-2 : tie.Need-same-length-2
 same-length-2 c = search needs
 
 returns-2 : tie.Need-returns-2
 returns-2 c =
-    let m = c .before .before .before .before .before .before in
-    line-met _ _ _ _ _ _ _ _ _ _ (sym (m .before .before .read .ensures) ∙ m .j .given .1) (c .before .before .strike .ensures)
+    let at-strike = c .before .before in
+    let m = at-strike .before .before .before .before in
+    line-met _ _ _ _ _ _ _ _ _ _ (sym (m .before .before .read .ensures) ∙ m .j .given .1) (at-strike .strike .ensures)
 
 same-length-3 : tie.Need-same-length-3
 same-length-3 c = search needs

@@ -14,6 +14,13 @@ within c =
     let r = c .before .before .before in
     subst (Within (length (r .fill .last .1 .0))) (c .n .given .1) (r .fill .ensures)
 
+-- the way back from the words to the bytes that were read
+abbrev was-read : tie.After-words → tie.After-n
+was-read c = c .before .before .before .before .before
+
+large-buffer-requires : tie.Need-large-buffer-requires
+large-buffer-requires c κs = search needs
+
 slice-aggregate-fill : tie.Need-slice-aggregate-fill
 slice-aggregate-fill c = search needs
 
@@ -39,14 +46,14 @@ slice-aggregate-read-words-2 : tie.Need-slice-aggregate-read-words-2
 slice-aggregate-read-words-2 c = search needs
 
 read-words-requires : tie.Need-read-words-requires
-read-words-requires c κs = let w = within (c .before .before .before .before .before) in search needs
+read-words-requires c κs = let w = within (was-read c) in search needs
 
 array-share-prefix-words : tie.Need-array-share-prefix-words
-array-share-prefix-words c = let w = within (c .before .before .before .before .before .before .before) in search needs
+array-share-prefix-words c = let w = within (was-read (c .before .before)) in search needs
 
 slice-aggregate-draw-block : tie.Need-slice-aggregate-draw-block
 slice-aggregate-draw-block c =
-    let w = within (c .before .before .before .before .before .before .before .before) in
+    let w = within (was-read (c .before .before .before)) in
     sym (length-take-le _ _ (search needs))
 
 draw-block-requires : tie.Need-draw-block-requires
@@ -65,6 +72,7 @@ pub take-block-spec : {M : Type 1} → statement M
 take-block-spec =
     tie.close
     (tie.spec
+    large-buffer-requires
     slice-aggregate-fill
     fill-requires
     enum-told

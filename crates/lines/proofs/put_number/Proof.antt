@@ -1,0 +1,24 @@
+-- `lines::put_number` meets its contract: the digits, and the byte right after them. Assumes nothing.
+use borrow.Author.Needs.{needs}
+use Rattle.writing.proofs.Writing.{written-next}
+use Rattle.lines.proofs.put_number.Statement.{statement}
+use Rattle.lines.proofs.put_number.Tie as tie
+
+put-decimal-requires : tie.Need-put-decimal-requires
+put-decimal-requires c κs = search needs
+
+slice-write-out : tie.Need-slice-write-out
+slice-write-out c = search needs
+
+add-result : tie.Need-add-result
+add-result c = search needs
+
+same-length : tie.Need-same-length
+same-length c = search needs
+
+returns : tie.Need-returns
+returns c = written-next _ _ _ _ _ _ _ _ (c .before .before .put-decimal .ensures) (search needs)
+
+pub put-number-spec : {M : Type 1} → statement M
+put-number-spec =
+    tie.close (tie.spec put-decimal-requires slice-write-out add-result same-length returns)

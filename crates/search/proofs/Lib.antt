@@ -1,0 +1,5 @@
+pub mod Powers
+pub mod Squarings
+pub mod Edge
+pub mod Spans
+pub mod Turns

@@ -1,0 +1,3 @@
+pub mod Power
+pub mod Squares
+pub mod Search
