@@ -46,7 +46,8 @@ array-share-prefix-case c = let w = within (c .before .before .before .before .b
 
 slice-aggregate-draw-many : tie.Need-slice-aggregate-draw-many
 slice-aggregate-draw-many c =
-    let w = within (c .before .before .before .before .before .before) in
+    let part = c .before in
+    let w = within (part .before .before .before .before .before) in
     sym (length-take-le _ _ (search needs))
 
 draw-many-requires : tie.Need-draw-many-requires
