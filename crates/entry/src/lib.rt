@@ -69,7 +69,7 @@ fn row_at(book: &[u8], at: usize) -> Row
     row_of(kind, first, second, third)
 }
 
-// The count of the entry at `at`. (Its eight bytes become one load where this function is called, and eight where it is not one.)
+// The count of the entry at `at`. (By a function of its own, since the compiler then makes one load of its eight bytes.)
 fn count_at(book: &[u8], at: usize) -> u64
     requires { ⌜ at + fixedLength ≤ length (now book) ⌝ }
     ensures { λ r. ⌜ r ≡ countAt (now (book .entry)) at ⌝ }
