@@ -9,7 +9,7 @@ use lib.ListN.{length, drop}
 use borrow.Author.Tests.{lt-ltb, le-ltb, eq-eqb, ne-eqb}
 use Rattle.words.specs.Outcome.{Outcome, drawn, refused}
 use Rattle.words.specs.declared.Draw.{Draw}
-use Rattle.words.specs.Paper.{drew}
+use Rattle.words.specs.Inner.{drew}
 use Rattle.words.specs.Refusals.{Condition, _on_, given, First, NoneHolds}
 use Rattle.words.proofs.Exactly.{none-given}
 use Rattle.bytes_le.proofs.Numbers.{Bytes}

@@ -12,7 +12,8 @@ use Rattle.words.specs.Outcome.{Outcome, drawn, refused}
 use Rattle.words.specs.declared.Draw.{Draw}
 use Rattle.words.specs.Paper.{told}
 use Rattle.words.specs.Refusals.{Condition, _on_, given, First, NoneHolds}
-use Rattle.words.specs.Draw.{shorts, isShort, endings}
+use Rattle.words.specs.Draw.{shorts, endings}
+use Rattle.words.specs.Inner.{isShort}
 use Rattle.words.proofs.Tape.{limit-within}
 use Rattle.words.proofs.Exactly.{first-given, first-before, given-append, none-given}
 use Rattle.words.proofs.Short.{none-ended, first-ended}

@@ -8,7 +8,7 @@ use lib.Count.{leadingZeros}
 use lib.ListN.{getD, replicate}
 use Rattle.words.specs.declared.Refusal.{Refusal}
 use Rattle.words.specs.Outcome.{drawn}
-use Rattle.words.specs.Paper.{drew}
+use Rattle.words.specs.Inner.{drew}
 use Rattle.words.specs.Words.{tooLong}
 use Rattle.words.specs.Rule.{read}
 use Rattle.words.specs.Draw.{endings}

@@ -8,9 +8,11 @@ use lib.ListN.{length, take}
 use lib.Ieee.{binary64, ofBits}
 use Rattle.words.specs.Words.{mostWords}
 use Rattle.words.specs.Outcome.{drawn, refused}
-use Rattle.words.specs.Refusals.{First}
-use Rattle.words.specs.Draw.{isShort}
-use Rattle.words.proofs.Lawful.{Lawful, lawful-exactly, lawful-local, lawful-used, lawful-parameter}
+use Rattle.words.specs.Rule.{CanEnd}
+use Rattle.words.specs.Refusals.{First, NoneHolds}
+use Rattle.words.specs.Draw.{conditions}
+use Rattle.words.specs.Inner.{isShort}
+use Rattle.words.proofs.Lawful.{Lawful, IsShort, WantsMore, lawful-exactly, lawful-local, lawful-used, lawful-parameter, lawful-short}
 use Rattle.poisson.proofs.Laws.{poisson-lawful}
 use Rattle.geometric.proofs.GeometricLaws.{geometric-lawful}
 use Rattle.standard_geometric.proofs.Laws.{standard-lawful}
@@ -18,7 +20,6 @@ use Rattle.hypergeometric.proofs.Laws.{hypergeometric-lawful}
 use Rattle.kinds.specs.declared.Request.{Request}
 use Rattle.kinds.specs.declared.Request.the-variants.{Hypergeometric, Poisson, Geometric, StandardGeometric}
 use Rattle.draws.specs.Request.{drawing, Supported, parameterRefusals, readingOf, drawOf}
-use Rattle.draws.specs.Demand2.{conditions}
 
 -- each kind's record
 pub lawful : (r : Request) → Lawful (drawing r) (Supported r)
@@ -29,8 +30,17 @@ lawful StandardGeometric = standard-lawful
 
 module _ (r : Request) where
   -- each refusal is given exactly on its condition, none earlier holding
-  pub request-exactly : (ws : List ℕ) (n : ℕ) → (drawOf r ws ≡ refused n) ↔ First n (conditions r ws)
+  pub request-exactly : (ws : List ℕ) (n : ℕ) → (drawOf r ws ≡ refused n) ↔ First n (conditions (drawing r) ws)
   request-exactly = lawful-exactly (drawing r) (Supported r) (lawful r)
+
+  -- Exhausted in 01's words: the draw is refused by a number for a tape that is too short exactly when nothing is refused before a word is
+  -- read and the rules call for a word past the end: over whatever longer tape it draws, it uses more words than this one has.
+  pub request-short : (ws : List ℕ) → IsShort (drawing r) ws ↔ WantsMore (drawing r) ws
+  request-short = lawful-short (drawing r) (Supported r) (lawful r)
+
+  -- and where its parameters pass, there is a longer tape over which it draws
+  pub request-can-end : NoneHolds (parameterRefusals r) → (ws : List ℕ) → CanEnd (readingOf r) ws
+  request-can-end = lawful r .can-end
 
   -- a reading runs out by a short refusal alone, and a parameter's refusal is none
   pub request-ends : (ws : List ℕ) (n : ℕ) → readingOf r ws ≡ refused n → isShort n ≡ true

@@ -2,9 +2,10 @@
 use Prim.Native.Nat.{ℕ}
 use mathlib.Core.List.{List}
 use lib.Ieee.{binary64, ofBits}
+use Rattle.words.specs.declared.Answer.{Answer}
 use Rattle.words.specs.Outcome.{Outcome}
 use Rattle.words.specs.Refusals.{Condition}
-use Rattle.words.specs.Draw.{Drawing, draw}
+use Rattle.words.specs.Draw.{Drawing, draw, DrawAllows}
 use Rattle.poisson.specs.Poisson.{poisson}
 use Rattle.geometric.specs.Geometric.{geometric}
 use Rattle.standard_geometric.specs.Standard.{standardGeometric}
@@ -38,3 +39,7 @@ readingOf r ws = drawing r .reads ws
 -- the draw
 abbrev pub drawOf : Request → List ℕ → Outcome ℕ
 drawOf r ws = draw (drawing r) ws
+
+-- The contract of `draws::draw`: the answer a to the request r over the words ws is that of its drawing.
+abbrev pub Answers : Request → List ℕ → Answer → Type 0
+Answers r ws a = DrawAllows (drawing r) ws a

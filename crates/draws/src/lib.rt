@@ -1,13 +1,11 @@
 // One draw of a request of any kind.
 use kinds::Request;
 use words::Answer;
-ghost use mathlib.Core.Path.{_≡_};
-ghost use Rattle.words.specs.Paper.{paper};
-ghost use Rattle.draws.specs.Request.{drawOf};
+ghost use Rattle.draws.specs.Request.{Answers};
 
 // One draw of the request, from the front of the tape.
 pub fn draw(tape: &[u64], request: Request) -> Answer
-    ensures { λ r. ⌜ paper r ≡ drawOf request (now (tape .entry)) ⌝ }
+    ensures { λ r. ⌜ Answers request (now (tape .entry)) r ⌝ }
 {
     match request {
         Request::Hypergeometric {

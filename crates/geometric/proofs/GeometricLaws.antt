@@ -1,31 +1,38 @@
 -- Laws of the geometric draw: what 01 says of module 3 beside the rules themselves. Assumes nothing.
 use mathlib.Core.Path.{_≡_, refl, sym, ap, ap₂, _∙_, subst}
 use mathlib.Core.Bool.{Bool, true, false, _&&_, true≢false, cond}
-use mathlib.Core.List.{List}
+use mathlib.Core.List.{List, [], _∷_}
 use mathlib.Core.Logic.{_⊎_, inl, inr, _↔_}
 use Prim.Native.Nat.{ℕ, suc, _+_, _*_, _-_, _%_, _^_, _≤_, _<_}
 use native.Mathlib.Nat.{le-trans, mod-lt, mul-le-mul}
 use native.Mathlib.Omega.{arith}
 use borrow.Author.Count.{below-none, below-more}
+use borrow.Author.Tests.{not-false}
+use lib.Dec.{T}
 use lib.ListN.{length, take, getD}
 use lib.IntN.{pos}
 use lib.Ieee.{Float, nan, fin, binary64, round, sub, div, lt, eq, le, ofBits}
+use lib.Ieee.Bits.{is-true}
+use lib.Ieee.Fits.{and-l}
 use Rattle.words.specs.Words.{mostWords, ratio, fractionOf}
 use Rattle.words.specs.Outcome.{Outcome, drawn, refused}
-use Rattle.words.specs.Rule.{done, more, Rule, reading, Local}
-use Rattle.words.specs.Refusals.{First}
-use Rattle.words.specs.Draw.{isOn, isShort, conditions, draw}
+use Rattle.words.specs.Rule.{done, more, Rule, reading, Local, CanEnd}
+use Rattle.words.specs.Refusals.{First, NoneHolds}
+use Rattle.words.specs.Draw.{conditions, draw}
+use Rattle.words.specs.Inner.{isOn, isShort}
 use Rattle.words.proofs.Patterns.{sign, bits-between, bits-over}
 use Rattle.words.proofs.Reading.{refused-not-drawn, reading-used, reading-ends}
 use Rattle.words.proofs.Keeping.{After, after-cond, reading-keeps}
 use Rattle.words.proofs.Locality.{reading-local, cond-local, const-local}
 use Rattle.words.proofs.Drawing.{accepted-within, accepted-reading}
+use Rattle.words.proofs.PastEnd.{closes-done, reading-can-end, cond-can-end}
 use Rattle.words.proofs.Lawful.{Lawful, lawful-exactly, lawful-local}
 use Rattle.search.specs.Power.{power}
 use Rattle.search.specs.Squares.{half, squares}
 use Rattle.search.specs.Search.{Search, firstRun, remainderWord, acceptance, searching, searchRule}
-use Rattle.geometric.specs.Geometric.{isProbability, isLarge, qOf, isNever, trivialRule, geometricReading, isTooRare, geometric}
+use Rattle.geometric.specs.Geometric.{isProbability, isLarge, qOf, isNever, trivialRule, geometricReading, isTooRare, probabilityRefusals, geometric}
 use Rattle.search.proofs.Squarings.{span-bounds}
+use Rattle.search.proofs.Ending.{search-closes}
 
 -- ---- the range of p
 
@@ -310,6 +317,28 @@ module _ (p : Float) (ws : List ℕ) (c u : ℕ) (e : draw (geometric p) ws ≡ 
           let r : s .m < span = subst (λ (x : ℕ). x < span) (sym (s .remainder)) (tried-lt (qOf p) span (squares (qOf p) .pi) ws (s .d) (s .before) (b .0)) in
           inl (omega (arith, s .count, mul-le-mul d (b .1)))
 
+-- where p passes, words can follow any tape with which the draw ends: of a large p the word 0, whose fraction is not above it
+zero-first : (p : Float) → isProbability p ≡ true → le (fractionOf 0) p ≡ true
+unfolding isProbability fractionOf round
+zero-first p e = is-true (le (ratio 0 1) p) (and-l (le (ratio 0 1) p) (le p (ratio 1 1)) (subst (λ (b : Bool). T b) (sym e) tt))
+
+not-rare : (p : Float) → isTooRare p ≡ false → isLarge p ≡ false → isNever p ≡ false → lt half (squares (qOf p) .pi) ≡ false
+unfolding isTooRare
+not-rare p e l n = rw (l, n) at e
+
+reading-can-end-of : (p : Float) → NoneHolds (probabilityRefusals p) → (ws : List ℕ) → CanEnd (geometricReading p) ws
+unfolding geometricReading
+reading-can-end-of p h ws =
+    let trivial : Rule ℕ ℕ = trivialRule p in
+    let search : Rule Search ℕ = searchRule (qOf p) (2 ^ squares (qOf p) .k) (squares (qOf p) .pi) in
+    let never : List ℕ → Outcome ℕ = λ vs. drawn (2 ^ 64 - 1) 0 in
+    cond-can-end (isLarge p) (reading trivial) (λ vs. cond (isNever p) (never vs) (reading search vs)) ws
+    (λ l. reading-can-end trivial (λ n. (0 ∷ [], closes-done trivial n 0 [] n (rw (zero-first p (not-false (isProbability p) (h .0)))))) ws)
+    (λ l.
+    cond-can-end (isNever p) never (reading search) ws
+    (λ n. ([], (2 ^ 64 - 1, (0, refl))))
+    (λ n. reading-can-end search (search-closes (qOf p) (2 ^ squares (qOf p) .k) (squares (qOf p) .pi) (not-rare p (h .1 .0) l n)) ws))
+
 -- what the layers above are owed; a count has no support
 pub geometric-lawful : (p : Float) → Lawful (geometric p) (λ c. Unit)
 unfolding geometric isOn
@@ -319,6 +348,7 @@ geometric-lawful p =
       parameters = (refl, (refl, tt));
       local = reading-local-of p;
       within = λ ws c u e. reading-drew p ws c u e .1;
+      can-end = reading-can-end-of p;
       fits = λ ws c u e. count-fits c (geometric-count p ws c u e);
       support = λ ws c u e. tt;
     }

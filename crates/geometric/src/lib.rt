@@ -12,13 +12,13 @@ ghost use Rattle.words.specs.Words.{mostWords};
 ghost use Rattle.words.specs.Outcome.{drawn};
 ghost use Rattle.words.specs.Rule.{reading};
 ghost use Rattle.words.specs.Refusals.{_on_, given};
-ghost use Rattle.words.specs.Draw.{draw};
+ghost use Rattle.words.specs.Draw.{DrawAllows};
 ghost use Rattle.words.specs.Paper.{paper};
 ghost use Rattle.geometric.specs.Geometric.{trivialRule, geometricReading, isTooRare, geometric};
 
 // The geometric draw: failures before the first success of probability p.
 pub fn sample(tape: &[u64], p: f64) -> Answer
-    ensures { λ r. ⌜ paper r ≡ draw (geometric p) (now (tape .entry)) ⌝ }
+    ensures { λ r. ⌜ DrawAllows (geometric p) (now (tape .entry)) r ⌝ }
 {
     if words::too_long(tape) {
         return Answer::Refused(Refusal::TapeTooLong);
@@ -40,7 +40,7 @@ const MINUS_ZERO: u64 = 0x8000_0000_0000_0000;
 // The same with p by its 64 bits, as it travels and is booked. Floats from 0 up stand in the order of their bits, and the bits of an
 // infinity, a NaN or a float with a sign are above those of 1. Of these only -0.0 is a probability: it equals 0, and no success ever comes.
 pub fn sample_bits(tape: &[u64], p: u64) -> Answer
-    ensures { λ r. ⌜ paper r ≡ draw (geometric (ofBits binary64 p)) (now (tape .entry)) ⌝ }
+    ensures { λ r. ⌜ DrawAllows (geometric (ofBits binary64 p)) (now (tape .entry)) r ⌝ }
 {
     if words::too_long(tape) {
         return Answer::Refused(Refusal::TapeTooLong);

@@ -1,6 +1,6 @@
 -- Laws of the hypergeometric draw: what 01 says of modules 4 and 5 beside the rules themselves. Assumes nothing.
 use mathlib.Core.Path.{_≡_, refl, sym, ap, subst}
-use mathlib.Core.List.{List}
+use mathlib.Core.List.{List, [], _∷_}
 use mathlib.Core.Logic.{_↔_}
 use Prim.Native.Nat.{ℕ, suc, _≤_, _<_}
 use native.Mathlib.Omega.{arith}
@@ -8,11 +8,13 @@ use lib.ListN.{length, take, getD}
 use Rattle.words.specs.Words.{mostWords, fractionOf}
 use Rattle.words.specs.Outcome.{drawn, refused}
 use Rattle.words.specs.Refusals.{First, NoneHolds}
-use Rattle.words.specs.Draw.{isOn, conditions, draw}
+use Rattle.words.specs.Draw.{conditions, draw}
+use Rattle.words.specs.Inner.{isOn}
 use Rattle.words.proofs.Reading.{reading-used, reading-ends}
 use Rattle.words.proofs.Keeping.{reading-keeps}
 use Rattle.words.proofs.Locality.{reading-local}
 use Rattle.words.proofs.Drawing.{accepted-passed, accepted-reading}
+use Rattle.words.proofs.PastEnd.{closes-done, reading-can-end}
 use Rattle.words.proofs.Lawful.{Lawful, lawful-exactly, lawful-local}
 use Rattle.hypergeometric.specs.Reduction.{populationCap, InSupport}
 use Rattle.hypergeometric.specs.SetUp.{setUp, trayRefusals}
@@ -70,6 +72,8 @@ hypergeometric-lawful N K n =
       parameters = (refl, (refl, (refl, (refl, (refl, tt)))));
       local = reading-local r;
       within = reading-used r;
+      -- one word is enough, whatever it is
+      can-end = λ h. reading-can-end r (λ s. (0 ∷ [], closes-done r s 0 [] (counted (setUp N K n) 0) refl));
       fits = λ ws c u e. omega (arith, hypergeometric-bounds N K n ws c u e .1);
       support = hypergeometric-support N K n;
     }

@@ -8,7 +8,8 @@ use lib.Dec.{leb, ltb}
 use borrow.Author.Tests.{ltb-true, ltb-false, leb-true, leb-false}
 use Rattle.hypergeometric.specs.declared.Sign.the-variants.{Plus, Minus}
 use Rattle.hypergeometric.specs.declared.Reduced.{Reduced}
-use Rattle.hypergeometric.specs.Reduction.{landing, flip, Lands, byMarked, bySample, reduction, least, most}
+use Rattle.hypergeometric.specs.Reduction.{landing, flip, byMarked, bySample, reduction, least, most}
+use Rattle.hypergeometric.specs.Inner.{Lands}
 
 -- f carries 0..top one-to-one onto low..high: into it, no two to one place, and every place is hit
 pub record OneToOneOnto (f : ℕ → ℕ) (top low high : ℕ) : Type 0 where

@@ -14,7 +14,8 @@ use Rattle.words.proofs.OneAnswer.{one-refusal}
 use Rattle.hypergeometric.specs.declared.Hypergeometric.{Hypergeometric}
 use Rattle.hypergeometric.specs.declared.SetUp.{SetUp}
 use Rattle.hypergeometric.specs.declared.SetUp.the-variants.{Ready, Refused}
-use Rattle.hypergeometric.specs.Reduction.{populationCap, Lands, reduction}
+use Rattle.hypergeometric.specs.Reduction.{populationCap, reduction}
+use Rattle.hypergeometric.specs.Inner.{Lands}
 use Rattle.hypergeometric.specs.SetUp.{setUp, trayRefusals, settled, setUpPaper, FromSetUp}
 use Rattle.hypergeometric.proofs.Reducing.{n1+n2, k≤n2, lands}
 

@@ -9,7 +9,8 @@ use borrow.Author.Count.{below-none, below-more}
 use lib.Ieee.{Float, binary64, sub, lt}
 use lib.Ieee.Exact.{HasValue}
 use Rattle.first_probability.specs.First.{asFloat}
-use Rattle.hypergeometric.specs.Inversion.{Small, nextP, walk, inverted}
+use Rattle.hypergeometric.specs.Inversion.{nextP, walk, inverted}
+use Rattle.hypergeometric.specs.Inner.{Small}
 use Rattle.first_probability.proofs.Factors.{whole-exact}
 
 -- the two whole numbers of a step, as floats, are themselves to the last bit

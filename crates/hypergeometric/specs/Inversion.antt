@@ -1,8 +1,7 @@
 -- 01, module 5: the inversion, step for step. Assumes nothing.
-use Prim.Native.Nat.{ℕ, zero, suc, _+_, _-_, _*_, _≤_, min}
+use Prim.Native.Nat.{ℕ, zero, suc, _+_, _-_, _*_, min}
 use mathlib.Core.Bool.{Bool, true, false}
 use lib.Ieee.{Float, binary64, sub, mul, div, lt}
-use Rattle.hypergeometric.specs.Reduction.{populationCap}
 use Rattle.first_probability.specs.First.{asFloat}
 
 -- the probability of x + 1 from that of x: a product, then a quotient, each by one whole number
@@ -19,9 +18,3 @@ walk n1 n2 k (suc r) true x u p = walk n1 n2 k r (lt (nextP n1 n2 k x p) (sub bi
 -- x from 0 on, with the bound min(n1, k), by the first probability p and the fraction u
 unfoldable pub inverted : ℕ → ℕ → ℕ → Float → Float → ℕ
 inverted n1 n2 k p u = walk n1 n2 k (min n1 k) (lt p u) 0 u p
-
--- numbers that the reduction can leave, of which every product above is a float's
-pub record Small (n1 n2 k : ℕ) : Type 0 where
-  pub n1≤ : n1 ≤ populationCap
-  pub n2≤ : n2 ≤ populationCap
-  pub k≤ : k ≤ n2

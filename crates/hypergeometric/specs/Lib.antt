@@ -3,3 +3,4 @@ pub mod SetUp
 pub mod RustTest
 pub mod Inversion
 pub mod Hypergeometric
+pub mod Inner

@@ -1,5 +1,5 @@
 -- 01, module 4: the reduction of a population of N, K of them marked, and a sample of n, for K ≤ N and n ≤ N. Assumes nothing.
-use Prim.Native.Nat.{ℕ, _+_, _-_, _/_, _^_, _≤_, _<_, min}
+use Prim.Native.Nat.{ℕ, _+_, _-_, _/_, _≤_, min}
 use mathlib.Core.Bool.{cond}
 use lib.Dec.{leb, ltb}
 use Rattle.hypergeometric.specs.declared.Sign.{Sign}
@@ -14,11 +14,6 @@ populationCap = 1048576
 abbrev pub landing : Sign → ℕ → ℕ → ℕ
 landing Plus offset x = offset + x
 landing Minus offset x = offset - x
-
--- where that is neither below 0 nor past 64 bits
-abbrev pub Lands : Sign → ℕ → ℕ → Type 0
-Lands Plus offset x = offset + x < 2 ^ 64
-Lands Minus offset x = x ≤ offset
 
 abbrev pub flip : Sign → Sign
 flip Plus = Minus

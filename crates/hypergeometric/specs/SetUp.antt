@@ -52,6 +52,10 @@ abbrev pub setUpPaper : SetUp → Outcome Hypergeometric
 setUpPaper (Ready h) = drawn h 0
 setUpPaper (Refused x) = refused (numberOf x)
 
+-- The contract of the set-up: its answer a is, in the paper's terms, what the set-up comes to.
+abbrev pub SetUpAllows : ℕ → ℕ → ℕ → SetUp → Type 0
+SetUpAllows N K n a = setUpPaper a ≡ settled N K n
+
 -- a record that the set-up gives
 pub record FromSetUp (h : Hypergeometric) : Type 0 where
   pub N : ℕ

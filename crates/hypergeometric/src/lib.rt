@@ -13,11 +13,12 @@ ghost use Prim.Native.Nat.{_≤_, _<_};
 ghost use lib.Ieee.Scale.{finite};
 ghost use Rattle.words.specs.Outcome.{drawn};
 ghost use Rattle.words.specs.Refusals.{_on_, given};
-ghost use Rattle.words.specs.Draw.{draw};
-ghost use Rattle.words.specs.Paper.{paper};
-ghost use Rattle.hypergeometric.specs.Reduction.{landing, flip, Lands, byMarked, reduction};
-ghost use Rattle.hypergeometric.specs.SetUp.{withFirst, zeroOrNotFinite, settled, setUpPaper, FromSetUp};
-ghost use Rattle.hypergeometric.specs.Inversion.{Small, nextP, inverted};
+ghost use Rattle.words.specs.Draw.{DrawAllows};
+ghost use Rattle.hypergeometric.specs.Reduction.{landing, flip, byMarked, reduction};
+ghost use Rattle.hypergeometric.specs.Inner.{Lands};
+ghost use Rattle.hypergeometric.specs.SetUp.{withFirst, zeroOrNotFinite, setUpPaper, SetUpAllows, FromSetUp};
+ghost use Rattle.hypergeometric.specs.Inversion.{nextP, inverted};
+ghost use Rattle.hypergeometric.specs.Inner.{Small};
 ghost use Rattle.hypergeometric.specs.Hypergeometric.{fromKept, hypergeometric};
 
 // The largest population that is drawn from.
@@ -64,7 +65,7 @@ pub fn sample(
     population_with_feature: u64,
     sample_size: u64,
 ) -> Answer
-    ensures { λ r. ⌜ paper r ≡ draw (hypergeometric «total_population_size» «population_with_feature» «sample_size») (now (tape .entry)) ⌝ }
+    ensures { λ r. ⌜ DrawAllows (hypergeometric «total_population_size» «population_with_feature» «sample_size») (now (tape .entry)) r ⌝ }
 {
     if words::too_long(tape) {
         return Answer::Refused(Refusal::TapeTooLong);
@@ -80,7 +81,7 @@ pub fn sample(
 // set-up gave.
 pub fn sample_from(tape: &[u64], kept: Hypergeometric) -> Answer
     requires { ⌜ FromSetUp kept ⌝ }
-    ensures { λ r. ⌜ paper r ≡ draw (fromKept kept) (now (tape .entry)) ⌝ }
+    ensures { λ r. ⌜ DrawAllows (fromKept kept) (now (tape .entry)) r ⌝ }
 {
     if words::too_long(tape) {
         return Answer::Refused(Refusal::TapeTooLong);
@@ -98,7 +99,7 @@ pub fn sample_from(tape: &[u64], kept: Hypergeometric) -> Answer
 
 // `Hypergeometric::new`: the refusals that look at no word, and the record.
 pub fn set_up(total_population_size: u64, population_with_feature: u64, sample_size: u64) -> SetUp
-    ensures { λ r. ⌜ setUpPaper r ≡ settled «total_population_size» «population_with_feature» «sample_size» ⌝ }
+    ensures { λ r. ⌜ SetUpAllows «total_population_size» «population_with_feature» «sample_size» r ⌝ }
 {
     if population_with_feature > total_population_size {
         return SetUp::Refused(Refusal::ProbabilityTooLarge);

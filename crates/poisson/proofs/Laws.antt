@@ -1,26 +1,30 @@
 -- Laws of the Poisson draw: what 01 says of module 2 beside the rule itself. Assumes nothing.
 use mathlib.Core.Path.{_≡_, refl, sym, ap, ap₂, _∙_}
 use mathlib.Core.Bool.{true, false, _&&_}
-use mathlib.Core.List.{List}
+use mathlib.Core.List.{List, [], _∷_}
 use mathlib.Core.Logic.{_↔_}
 use Prim.Native.Nat.{ℕ, zero, suc, _+_, _^_, _≤_, _<_}
 use native.Mathlib.Numerals.{add-one}
 use native.Mathlib.Omega.{arith}
 use borrow.Author.Count.{below-none, below-more}
+use borrow.Author.Tests.{not-false}
 use lib.ListN.{length, take, getD}
 use lib.Ieee.{Float, nan, binary64, round, mul, lt, le, ofBits}
 use Rattle.words.specs.Words.{mostWords, ratio, fractionOf}
 use Rattle.words.specs.Outcome.{drawn, refused}
 use Rattle.words.specs.Rule.{done, more}
 use Rattle.words.specs.Refusals.{First}
-use Rattle.words.specs.Draw.{isOn, conditions, draw}
+use Rattle.words.specs.Draw.{conditions, draw}
+use Rattle.words.specs.Inner.{isOn}
 use Rattle.words.proofs.Patterns.{bits-between, bits-under, bits-over}
 use Rattle.words.proofs.Reading.{reading-used, reading-ends}
 use Rattle.words.proofs.Keeping.{After, after-cond, reading-keeps}
 use Rattle.words.proofs.Locality.{reading-local}
 use Rattle.words.proofs.Drawing.{accepted-within, accepted-reading}
+use Rattle.words.proofs.PastEnd.{reading-can-end}
 use Rattle.words.proofs.Lawful.{Lawful, lawful-exactly, lawful-local}
 use Rattle.poisson.specs.Poisson.{Product, none, product, whileAbove, knuthRule, inRange, poisson}
+use Rattle.poisson.proofs.Ending.{knuth-closes}
 
 -- a NaN is outside the range; both its ends are inside, and the next floats past them are not
 pub nan-outside : inRange nan ≡ false
@@ -123,6 +127,7 @@ poisson-lawful T =
       parameters = (refl, tt);
       local = reading-local (knuthRule T);
       within = reading-used (knuthRule T);
+      can-end = λ h. reading-can-end (knuthRule T) (λ s. (0 ∷ [], knuth-closes T (not-false (inRange T) (h .0)) s));
       fits = λ ws c u e. omega (arith, poisson-bounds T ws c u e .1);
       support = λ ws c u e. tt;
     }

@@ -7,13 +7,13 @@ use words::Word;
 ghost use mathlib.Core.Path.{_≡_};
 ghost use lib.Ieee.{binary64, ofBits};
 ghost use Rattle.words.specs.Rule.{reading};
-ghost use Rattle.words.specs.Draw.{draw};
+ghost use Rattle.words.specs.Draw.{DrawAllows};
 ghost use Rattle.words.specs.Paper.{paper};
 ghost use Rattle.poisson.specs.Poisson.{knuthRule, poisson};
 
 // The Poisson draw with the threshold exp_lambda, which is e^-lambda or any other number in the range.
 pub fn sample(tape: &[u64], exp_lambda: f64) -> Answer
-    ensures { λ r. ⌜ paper r ≡ draw (poisson «exp_lambda») (now (tape .entry)) ⌝ }
+    ensures { λ r. ⌜ DrawAllows (poisson «exp_lambda») (now (tape .entry)) r ⌝ }
 {
     if words::too_long(tape) {
         return Answer::Refused(Refusal::TapeTooLong);
@@ -35,7 +35,7 @@ const HIGHEST: u64 = 0x3ff0_0000_0000_0000;
 // The same with the threshold by its 64 bits, as it travels and is booked. Floats from 0 up stand in the order of their bits, and the bits
 // of an infinity, a NaN or a float with a sign are above those of 1: so the bits are in their range where the float is in its.
 pub fn sample_bits(tape: &[u64], exp_lambda: u64) -> Answer
-    ensures { λ r. ⌜ paper r ≡ draw (poisson (ofBits binary64 «exp_lambda»)) (now (tape .entry)) ⌝ }
+    ensures { λ r. ⌜ DrawAllows (poisson (ofBits binary64 «exp_lambda»)) (now (tape .entry)) r ⌝ }
 {
     if words::too_long(tape) {
         return Answer::Refused(Refusal::TapeTooLong);

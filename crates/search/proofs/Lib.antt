@@ -3,3 +3,4 @@ pub mod Squarings
 pub mod Edge
 pub mod Spans
 pub mod Turns
+pub mod Ending

@@ -6,7 +6,8 @@ use Prim.Native.Nat.{ℕ, _+_}
 use lib.ListN.{drop}
 use lib.Ieee.{Float, lt}
 use Rattle.words.specs.declared.Word.the-variants.{Is}
-use Rattle.words.specs.Words.{wordAt, fractionOf}
+use Rattle.words.specs.Words.{fractionOf}
+use Rattle.words.specs.Inner.{wordAt}
 use Rattle.words.specs.Outcome.{Outcome}
 use Rattle.words.specs.Rule.{Rule, more, read, reading}
 use Rattle.words.proofs.Reading.{read-at}

@@ -1,7 +1,7 @@
 -- Laws of the standard geometric draw: what 01 says of module 1 beside the rule itself. Assumes nothing.
 use mathlib.Core.Path.{_≡_, refl, ap, _∙_}
 use mathlib.Core.Bool.{true, false}
-use mathlib.Core.List.{List}
+use mathlib.Core.List.{List, [], _∷_}
 use mathlib.Core.Logic.{_↔_}
 use Prim.Native.Nat.{ℕ, suc, _+_, _*_, _-_, _≤_, _<_}
 use native.Mathlib.Numerals.{add-one}
@@ -15,11 +15,13 @@ use Rattle.words.specs.Words.{mostWords}
 use Rattle.words.specs.Outcome.{drawn, refused}
 use Rattle.words.specs.Rule.{done, more}
 use Rattle.words.specs.Refusals.{First}
-use Rattle.words.specs.Draw.{isOn, conditions, draw}
+use Rattle.words.specs.Draw.{conditions, draw}
+use Rattle.words.specs.Inner.{isOn}
 use Rattle.words.proofs.Reading.{reading-used, reading-ends}
 use Rattle.words.proofs.Keeping.{After, after-cond, reading-keeps}
 use Rattle.words.proofs.Locality.{reading-local}
 use Rattle.words.proofs.Drawing.{accepted-within, accepted-reading}
+use Rattle.words.proofs.PastEnd.{closes-done, reading-can-end}
 use Rattle.words.proofs.Lawful.{Lawful, lawful-exactly, lawful-local}
 use Rattle.standard_geometric.proofs.Zeros.{zeros-fewer}
 use Rattle.standard_geometric.specs.Standard.{standardRule, standardGeometric}
@@ -89,6 +91,8 @@ standard-lawful =
       parameters = tt;
       local = reading-local standardRule;
       within = reading-used standardRule;
+      -- a word that isn't 0 is the last
+      can-end = λ h. reading-can-end standardRule (λ n. (1 ∷ [], closes-done standardRule n 1 [] (n + leadingZeros 64 1) refl));
       fits = λ ws c u e. omega (arith, standard-bounds ws c u e .1);
       support = λ ws c u e. tt;
     }

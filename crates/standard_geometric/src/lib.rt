@@ -8,13 +8,13 @@ ghost use Prim.Native.Nat.{_≤_};
 ghost use lib.ListN.{length, drop};
 ghost use Rattle.words.specs.Words.{mostWords};
 ghost use Rattle.words.specs.Rule.{more, read};
-ghost use Rattle.words.specs.Draw.{draw};
+ghost use Rattle.words.specs.Draw.{DrawAllows};
 ghost use Rattle.words.specs.Paper.{paper};
 ghost use Rattle.standard_geometric.specs.Standard.{standardRule, standardGeometric};
 
 // The draw: p is one half, and each leading zero bit a failure. All but one in 2^64 draws end with their first word.
 pub fn sample(tape: &[u64]) -> Answer
-    ensures { λ r. ⌜ paper r ≡ draw standardGeometric (now (tape .entry)) ⌝ }
+    ensures { λ r. ⌜ DrawAllows standardGeometric (now (tape .entry)) r ⌝ }
 {
     if words::too_long(tape) {
         return Answer::Refused(Refusal::TapeTooLong);

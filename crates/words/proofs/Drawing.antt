@@ -9,7 +9,8 @@ use Rattle.words.specs.Words.{mostWords, tooLong}
 use Rattle.words.specs.Outcome.{Outcome, drawn, refused}
 use Rattle.words.specs.Rule.{Local}
 use Rattle.words.specs.Refusals.{_on_, given, First, NoneHolds}
-use Rattle.words.specs.Draw.{shorts, isShort, endings, Drawing, conditions, draw}
+use Rattle.words.specs.Draw.{shorts, endings, Drawing, conditions, draw}
+use Rattle.words.specs.Inner.{isShort}
 use Rattle.words.proofs.Tape.{within-limit, limit-within}
 use Rattle.words.proofs.Exactly.{first-given, first-before, exactly, some-after, given-append, none-given, none-before, drawn-exactly}
 use Rattle.words.proofs.Short.{ends-same, ended-first}

@@ -54,6 +54,16 @@ first-before [] ds n f = absurd f
 first-before (c ∷ cs) ds n (inl h) = inl h
 first-before (c ∷ cs) ds n (inr h) = inr (h .0, first-before cs ds n (h .1))
 
+-- what holds first in two lists holds first in one of them, and then none of those before it holds
+pub first-split : (cs ds : List Condition) (n : ℕ) → First n (cs ++ ds) → First n cs ⊎ (NoneHolds cs × First n ds)
+first-split [] ds n f = inr (tt, f)
+first-split (c ∷ cs) ds n (inl h) = inl (inl h)
+first-split (c ∷ cs) ds n (inr h) = go (first-split cs ds n (h .1))
+  where
+    go : First n cs ⊎ (NoneHolds cs × First n ds) → First n (c ∷ cs) ⊎ (NoneHolds (c ∷ cs) × First n ds)
+    go (inl f) = inl (inr (h .0, f))
+    go (inr x) = inr ((h .0, x .0), x .1)
+
 -- a list has a first where its tail does
 pub some-after : (cs ds : List Condition) → SomeFirst ds → SomeFirst (cs ++ ds)
 some-after [] ds s = s

@@ -4,6 +4,7 @@ pub mod Tape
 pub mod Reading
 pub mod Locality
 pub mod Keeping
+pub mod PastEnd
 pub mod Exactly
 pub mod Short
 pub mod Drawing

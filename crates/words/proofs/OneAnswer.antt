@@ -9,7 +9,8 @@ use Rattle.words.specs.declared.Draw.{Draw}
 use Rattle.words.specs.declared.Refusal.{Refusal}
 use Rattle.words.specs.declared.Refusal.the-variants.{TapeTooLong, PopulationTooLarge, ProbabilityTooLarge, SampleSizeTooLarge, CapExceeded, ModeTooHigh, ThresholdOutside, InvalidProbability, TooRare, Exhausted, BookTooLong, BookDamaged, SerialAhead, SerialReused, BookFull, StrikeTooMany, RedrawDiffers}
 use Rattle.words.specs.Outcome.{Outcome, drawn, refused}
-use Rattle.words.specs.Paper.{numberOf, drew, paper}
+use Rattle.words.specs.Paper.{numberOf, paper}
+use Rattle.words.specs.Inner.{drew}
 
 -- the refusals in the order of their numbers; no refusal has the number 0
 abbrev named : List Refusal

@@ -8,7 +8,8 @@ use lib.Dec.{eqb}
 use borrow.Author.Tests.{eq-eqb, ne-eqb, eqb-true}
 use Rattle.words.specs.Outcome.{Outcome, drawn, refused}
 use Rattle.words.specs.Refusals.{given, First, NoneHolds}
-use Rattle.words.specs.Draw.{isOn, endsBy, endings}
+use Rattle.words.specs.Draw.{endsBy, endings}
+use Rattle.words.specs.Inner.{isOn}
 
 -- a number that is none of a list is not on it
 abbrev pub NoneOf : ℕ → List ℕ → Type 0

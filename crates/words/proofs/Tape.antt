@@ -9,7 +9,8 @@ use lib.ListN.{length, getD, take, drop, length-drop}
 use lib.Seq.{take-all}
 use borrow.Author.Tests.{ltb-true, ltb-false, le-ltb}
 use Rattle.words.specs.declared.Word.the-variants.{Is, End}
-use Rattle.words.specs.Words.{mostWords, tooLong, wordAt}
+use Rattle.words.specs.Words.{mostWords, tooLong}
+use Rattle.words.specs.Inner.{wordAt}
 
 module _ (ws : List ℕ) where
   -- a tape that is not too long keeps to the limit, and the other way round

@@ -1,23 +1,18 @@
 -- 01, 'Refusal numbers': the order for a draw, 1, then the parameters' refusals, then those of a tape that is too short. Assumes nothing.
 use Prim.Native.Nat.{ℕ}
-use mathlib.Core.Bool.{Bool, false, _||_}
+use mathlib.Core.Bool.{Bool, false}
 use mathlib.Core.List.{List, [], _∷_, _++_}
+use mathlib.Core.Path.{_≡_}
 use lib.Dec.{eqb}
+use Rattle.words.specs.declared.Answer.{Answer}
 use Rattle.words.specs.Words.{tooLong}
 use Rattle.words.specs.Outcome.{Outcome, drawn, refused}
 use Rattle.words.specs.Refusals.{Condition, _on_, given}
+use Rattle.words.specs.Paper.{paper}
 
 -- the refusals by which a reading may run out of words, in their order: Exhausted
 abbrev pub shorts : List ℕ
 shorts = 10 ∷ []
-
--- whether a number is on a list
-unfoldable pub isOn : ℕ → List ℕ → Bool
-isOn n [] = false
-isOn n (m ∷ ms) = eqb n m || isOn n ms
-
-abbrev pub isShort : ℕ → Bool
-isShort n = isOn n shorts
 
 -- whether reading called for a word past the end, in a state whose refusal is n
 abbrev pub endsBy : {A : Type 0} → ℕ → Outcome A → Bool
@@ -41,3 +36,7 @@ conditions d ws = 1 on tooLong ws ∷ d .refusals ++ endings shorts (d .reads ws
 -- its outcome
 unfoldable pub draw : {A : Type 0} → Drawing A → List ℕ → Outcome A
 draw d ws = given (conditions d ws) (d .reads ws)
+
+-- The contract of every draw: over the words ws the answer a is, in the paper's terms, the drawing's outcome.
+abbrev pub DrawAllows : Drawing ℕ → List ℕ → Answer → Type 0
+DrawAllows d ws a = paper a ≡ draw d ws

@@ -4,3 +4,4 @@ pub mod Rule
 pub mod Refusals
 pub mod Paper
 pub mod Draw
+pub mod Inner

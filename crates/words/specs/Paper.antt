@@ -27,9 +27,6 @@ numberOf StrikeTooMany = 16
 numberOf RedrawDiffers = 17
 
 -- what was drawn: a count, and the words used
-abbrev pub drew : ℕ → ℕ → Draw
-drew c u = record { count = c; used = u }
-
 abbrev pub told : Draw → Outcome ℕ
 told d = drawn (d .count) (d .used)
 

@@ -1,8 +1,8 @@
 -- How a drawing rule reads words (01, 'Words and fractions'): from the front, in order, one at a time. Said once for all draws. Assumes nothing.
-use Prim.Native.Nat.{ℕ, suc}
-use mathlib.Core.List.{List, [], _∷_}
+use Prim.Native.Nat.{ℕ, suc, _<_}
+use mathlib.Core.List.{List, [], _∷_, _++_}
 use mathlib.Core.Path.{_≡_}
-use lib.ListN.{take}
+use lib.ListN.{length, take}
 use Rattle.words.specs.Outcome.{Outcome, drawn, refused}
 
 -- where a rule stands: it has what it draws, or it calls for one word more in the state s
@@ -31,3 +31,11 @@ reading r ws = read r ws (r .start) 0
 -- gives the same.
 unfoldable pub Local : {A : Type 0} → (List ℕ → Outcome A) → Type 0
 Local {A} F = (ws vs : List ℕ) (a : A) (u : ℕ) → F ws ≡ drawn a u → take u ws ≡ take u vs → F vs ≡ drawn a u
+
+-- It calls for a word past the end of ws: whatever words follow them, where it then draws it uses more words than ws has.
+abbrev pub CallsPast : {A : Type 0} → (List ℕ → Outcome A) → List ℕ → Type 0
+CallsPast {A} F ws = (vs : List ℕ) (a : A) (u : ℕ) → F (ws ++ vs) ≡ drawn a u → length ws < u
+
+-- there are words that can follow ws and with which it draws
+abbrev pub CanEnd : {A : Type 0} → (List ℕ → Outcome A) → List ℕ → Type 0
+CanEnd {A} F ws = (vs : List ℕ) × ((a : A) × ((u : ℕ) × (F (ws ++ vs) ≡ drawn a u)))

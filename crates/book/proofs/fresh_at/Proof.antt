@@ -9,7 +9,7 @@ use borrow.Author.Tests.{ltb-false}
 use lib.Dec.{ltb}
 use lib.ListN.{length, drop}
 use Rattle.words.specs.Words.{mostWords}
-use Rattle.words.specs.Draw.{isShort}
+use Rattle.words.specs.Inner.{isShort}
 use Rattle.words.proofs.Tape.{lent-from}
 use Rattle.words.specs.Paper.{numberOf, paper}
 use Rattle.words.specs.declared.Refusal.{Refusal}

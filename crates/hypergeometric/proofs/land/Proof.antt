@@ -2,7 +2,7 @@
 use borrow.Author.Needs.{needs}
 use mathlib.Core.Path.{subst}
 use Rattle.hypergeometric.specs.declared.Sign.{Sign}
-use Rattle.hypergeometric.specs.Reduction.{Lands}
+use Rattle.hypergeometric.specs.Inner.{Lands}
 use Rattle.hypergeometric.proofs.land.Statement.{statement}
 use Rattle.hypergeometric.proofs.land.Tie as tie
 

@@ -4,7 +4,8 @@ use borrow.Author.Tests.{le-leb, lt-leb}
 use mathlib.Core.Path.{sym, subst}
 use native.Mathlib.Omega.{arith}
 use Rattle.hypergeometric.specs.declared.Reduced.{Reduced}
-use Rattle.hypergeometric.specs.Reduction.{Lands, bySample, reduction}
+use Rattle.hypergeometric.specs.Reduction.{bySample, reduction}
+use Rattle.hypergeometric.specs.Inner.{Lands}
 use Rattle.hypergeometric.proofs.Reducing.{marked-lands}
 use Rattle.hypergeometric.proofs.reduce.Statement.{statement}
 use Rattle.hypergeometric.proofs.reduce.Tie as tie

@@ -9,7 +9,7 @@ use lib.ListN.{length, drop}
 use lib.Pow.{pow-pos}
 use lib.Ieee.{Float, ofBits, round}
 use Rattle.words.specs.declared.Word.the-variants.{Is}
-use Rattle.words.specs.Words.{wordAt}
+use Rattle.words.specs.Inner.{wordAt}
 use Rattle.words.specs.Rule.{more, read}
 use Rattle.words.proofs.Tape.{word-there}
 use Rattle.words.proofs.Reading.{read-done, read-at, read-end}

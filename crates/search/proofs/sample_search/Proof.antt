@@ -6,7 +6,7 @@ use Prim.Native.Nat.{_≤_, _<_, _-_, _^_, zero-le}
 use native.Mathlib.Omega.{arith}
 use lib.ListN.{length, drop}
 use Rattle.words.specs.declared.Word.the-variants.{Is}
-use Rattle.words.specs.Words.{wordAt}
+use Rattle.words.specs.Inner.{wordAt}
 use Rattle.words.specs.Rule.{more, read, reading}
 use Rattle.words.proofs.Tape.{word-there}
 use Rattle.words.proofs.Reading.{read-end}

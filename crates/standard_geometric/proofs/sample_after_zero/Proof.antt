@@ -8,7 +8,7 @@ use native.Mathlib.Omega.{arith}
 use lib.ListN.{length, drop}
 use lib.Count.{leadingZeros, leading-le, leading-of-zero}
 use Rattle.words.specs.declared.Word.the-variants.{Is}
-use Rattle.words.specs.Words.{wordAt}
+use Rattle.words.specs.Inner.{wordAt}
 use Rattle.words.specs.Rule.{more, read}
 use Rattle.words.proofs.Tape.{word-there}
 use Rattle.words.proofs.Reading.{read-done, read-at, read-end}

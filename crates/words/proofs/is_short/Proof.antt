@@ -1,7 +1,8 @@
 -- `words::is_short` meets its contract: the list, number by number, and no other number. Assumes nothing.
 use borrow.Author.Needs.{needs}
 use mathlib.Core.Path.{sym}
-use Rattle.words.specs.Draw.{shorts, isOn}
+use Rattle.words.specs.Draw.{shorts}
+use Rattle.words.specs.Inner.{isOn}
 use Rattle.words.proofs.Short.{not-on}
 use Rattle.words.proofs.is_short.Statement.{statement}
 use Rattle.words.proofs.is_short.Tie as tie
