@@ -20,7 +20,7 @@ use Rattle.entry.specs.declared.Entry.{Entry}
 use Rattle.layout.specs.Book.{usedAll, decode}
 use Rattle.entry.proofs.Entries.{Fits}
 use Rattle.layout.proofs.Decoding.{by-test, Chain, written}
-use Rattle.opening.specs.Calls.{booked}
+use Rattle.opening.specs.Calls.{bookedFor, booked}
 use Rattle.book.specs.Deliver.{Booking, isNext, bookedAt, deliverRefusals, freshly, delivery, deliverTo, deliver}
 use Rattle.entry.specs.Entry.{blank}
 use Rattle.redraws.specs.Redraw.{redrawOf, redraw}
@@ -47,7 +47,7 @@ freshly-read (refused n) x u e = refused-not-drawn n x u e
 module _ (ws b : List ℕ) (by : Bytes b) where
   -- so the numbers of a book's entries fit their fields
   booked-fits : (i : ℕ) → Fits (getD (booked ws b) i blank)
-  unfolding booked
+  unfolding bookedFor
   booked-fits i = go (decode (length ws) b) refl
     where
       go : (o : Option (List Entry)) → decode (length ws) b ≡ o → Fits (getD (Option·getD o []) i blank)

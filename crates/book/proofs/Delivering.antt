@@ -19,9 +19,11 @@ use Rattle.entry.specs.declared.Entry.{Entry}
 use Rattle.layout.specs.declared.Standing.{Standing}
 use Rattle.entry.specs.Entry.{entryAt}
 use Rattle.layout.specs.Sound.{offset}
-use Rattle.opening.specs.Calls.{Call, call, booked, limits, IsOpen}
-use Rattle.layout.specs.Walk.{standing}
-use Rattle.book.specs.Deliver.{Booking, copy, isNext, isAhead, bookedAt, isReused, whenNext, freshRefusals, deliverRefusals, copied, delivery, delivering, deliverTo, deliver, freshDelivery}
+use Rattle.opening.specs.Calls.{Call, call, booked, limits}
+use Rattle.opening.specs.Inner.{IsOpen}
+use Rattle.layout.specs.Standing.{standing}
+use Rattle.book.specs.Deliver.{Booking, copy, isNext, isAhead, bookedAt, isReused, whenNext, freshRefusals, deliverRefusals, copied, delivery, delivering, deliverTo, deliver}
+use Rattle.book.specs.Inner.{freshDelivery}
 use Rattle.opening.proofs.Opening.{past-limits, stopped, open-read}
 
 -- of a serial that is not next no condition of a fresh delivery holds: no copy is refused by them

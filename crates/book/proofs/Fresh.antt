@@ -26,7 +26,8 @@ use Rattle.entry.specs.declared.Entry.{Entry}
 use Rattle.layout.specs.declared.Standing.{Standing}
 use Rattle.entry.specs.Entry.{booking, entryBytes}
 use Rattle.opening.specs.Calls.{call}
-use Rattle.book.specs.Deliver.{Booking, fresh, isFull, freshRefusals, freshly, delivering, freshDelivery}
+use Rattle.book.specs.Deliver.{Booking, fresh, isFull, freshRefusals, freshly, delivering}
+use Rattle.book.specs.Inner.{freshDelivery}
 
 -- what holds first in two lists joined holds first in one of them
 first-split : (cs ds : List Condition) (n : ℕ) → First n (cs ++ ds) → First n cs ⊎ (NoneHolds cs × First n ds)

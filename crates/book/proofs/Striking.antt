@@ -14,7 +14,8 @@ use Rattle.entry.specs.declared.Entry.{Entry}
 use Rattle.layout.specs.declared.Standing.{Standing}
 use Rattle.layout.specs.Book.{lengthAll}
 use Rattle.layout.specs.Sound.{offset}
-use Rattle.opening.specs.Calls.{Call, call, booked, limits, IsOpen}
+use Rattle.opening.specs.Calls.{Call, call, booked, limits}
+use Rattle.opening.specs.Inner.{IsOpen}
 use Rattle.book.specs.Strike.{strikeRefusals, leftBy, striking, strikeIn, strike}
 use Rattle.opening.proofs.Opening.{past-limits, stopped, open-offset}
 

@@ -10,10 +10,10 @@ use Rattle.bytes_le.specs.Zeros.{allZero}
 use Rattle.kinds.specs.Kinds.{numbered, kindOf, parametersOf, sameRequest}
 use Rattle.entry.specs.Entry.{parameterBytes, fixedBytes, entryBytes, entryAt}
 use Rattle.layout.specs.Book.{lengthAll, usedAll, head, decodeFrom, decode, bookTooLong}
-use Rattle.opening.specs.Calls.{isDamaged, booked}
+use Rattle.opening.specs.Calls.{isDamagedFor, bookedFor}
 use Rattle.book.specs.Deliver.{isFull, freshRefusals, deliverRefusals, delivery, deliverTo, deliver}
 use Rattle.book.specs.Worked.{Worked}
 
 pub worked : Worked
-unfolding leadingZeros tooLong read endings standardGeometric bytesOf spelled allZero numbered kindOf parametersOf sameRequest parameterBytes fixedBytes entryBytes wordsFrom entryAt lengthAll usedAll head decodeFrom decode bookTooLong isDamaged booked isFull freshRefusals deliverRefusals delivery deliverTo deliver
+unfolding leadingZeros tooLong read endings standardGeometric bytesOf spelled allZero numbered kindOf parametersOf sameRequest parameterBytes fixedBytes entryBytes wordsFrom entryAt lengthAll usedAll head decodeFrom decode bookTooLong isDamagedFor bookedFor isFull freshRefusals deliverRefusals delivery deliverTo deliver
 worked = refl

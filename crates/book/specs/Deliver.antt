@@ -3,6 +3,7 @@
 use Prim.Native.Nat.{ℕ, _+_, _-_}
 use mathlib.Core.Bool.{Bool, cond, not, _&&_, _||_}
 use mathlib.Core.List.{List, [], _∷_, _++_}
+use mathlib.Core.Path.{_≡_}
 use lib.Dec.{eqb, ltb}
 use lib.ListN.{length, getD, drop}
 use lib.Seq.{sets}
@@ -16,7 +17,7 @@ use Rattle.draws.specs.Request.{parameterRefusals, readingOf}
 use Rattle.entry.specs.declared.Entry.{Entry}
 use Rattle.layout.specs.declared.Standing.{Standing}
 use Rattle.entry.specs.Entry.{booking, blank, entryBytes}
-use Rattle.layout.specs.Walk.{standing}
+use Rattle.layout.specs.Standing.{standing}
 use Rattle.book.specs.declared.Delivered.{Delivered}
 use Rattle.book.specs.declared.Delivered.the-variants.{Fresh, Copy, Refused}
 use Rattle.opening.specs.Calls.{Call, call, booked, limits}
@@ -91,13 +92,12 @@ deliverTo ws b es s r = delivering (given (deliverRefusals ws b es s r) (deliver
 unfoldable pub deliver : List ℕ → List ℕ → ℕ → Request → Call Booking
 deliver ws b s r = deliverTo ws b (booked ws b) s r
 
--- a fresh delivery's rule by itself (`deliver-fresh`): it sees no more of the entries than how the book stands
-unfoldable pub freshDelivery : List ℕ → List ℕ → Standing → Request → Call Booking
-freshDelivery ws b st r =
-    delivering (given (freshRefusals (drop (st .place) ws) b (st .end) r) (freshly (readingOf r (drop (st .place) ws)))) b st r
-
 -- the enum in the paper's terms; nothing is lost (`one-delivered`)
 abbrev pub delivered : Delivered → Outcome Booking
 delivered (Fresh d) = drawn (fresh (d .count)) (d .used)
 delivered (Copy d) = drawn (copy (d .count)) (d .used)
 delivered (Refused x) = refused (numberOf x)
+
+-- The contract of `deliver`: over the words ws and the book b at entry, the answer a and the book c at exit are the rule's.
+abbrev pub DeliverAllows : List ℕ → List ℕ → ℕ → Request → Delivered → List ℕ → Type 0
+DeliverAllows ws b s r a c = call (delivered a) c ≡ deliver ws b s r

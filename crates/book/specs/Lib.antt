@@ -1,3 +1,4 @@
 pub mod Deliver
 pub mod Strike
 pub mod Worked
+pub mod Inner

@@ -1,6 +1,7 @@
 -- 01, 'The book', Strike, and 'Refusal numbers': order 1, 11, 12, 16. Assumes nothing.
 use Prim.Native.Nat.{ℕ, _-_}
 use mathlib.Core.List.{List, [], _∷_, _++_}
+use mathlib.Core.Path.{_≡_}
 use lib.Dec.{ltb}
 use lib.ListN.{length, take}
 use Rattle.words.specs.Outcome.{Outcome, drawn, refused}
@@ -40,3 +41,7 @@ strike ws b j = strikeIn ws b (booked ws b) j
 abbrev pub struck : Struck → Outcome ℕ
 struck (Left n) = drawn n 0
 struck (Refused x) = refused (numberOf x)
+
+-- The contract of `strike`: over the words ws and the book b at entry, the answer a and the book c at exit are the rule's.
+abbrev pub StrikeAllows : List ℕ → List ℕ → ℕ → Struck → List ℕ → Type 0
+StrikeAllows ws b j a c = call (struck a) c ≡ strike ws b j

@@ -25,11 +25,11 @@ ghost use Rattle.words.specs.Paper.{numberOf};
 ghost use Rattle.words.specs.Inner.{drew};
 ghost use Rattle.kinds.specs.Kinds.{sameRequest};
 ghost use Rattle.entry.specs.Entry.{booking};
-ghost use Rattle.opening.specs.Calls.{IsOpen, call};
-ghost use Rattle.book.specs.Deliver.{copied, delivered, freshDelivery};
-ghost use Rattle.book.specs.Deliver as rules;
-ghost use Rattle.book.specs.Strike.{struck};
-ghost use Rattle.book.specs.Strike as strikes;
+ghost use Rattle.opening.specs.Calls.{call};
+ghost use Rattle.opening.specs.Inner.{IsOpen};
+ghost use Rattle.book.specs.Deliver.{DeliverAllows, copied, delivered};
+ghost use Rattle.book.specs.Inner.{freshDelivery};
+ghost use Rattle.book.specs.Strike.{StrikeAllows};
 
 // What a delivery answers: what was freshly drawn and booked, or what was booked before; or why there is nothing.
 pub enum Delivered {
@@ -125,7 +125,7 @@ fn deliver_to(
     request: Request,
 ) -> Delivered
     requires { ⌜ IsOpen (now tape) (now book) standing ⌝ }
-    ensures { λ r. ⌜ call (delivered r) (now (book .exit)) ≡ rules.deliver (now (tape .entry)) (now (book .entry)) serial request ⌝ }
+    ensures { λ r. ⌜ DeliverAllows (now (tape .entry)) (now (book .entry)) serial request r (now (book .exit)) ⌝ }
 {
     if serial == 0 {
         return Delivered::Refused(Refusal::SerialAhead);
@@ -144,7 +144,7 @@ fn deliver_to(
 // Delivers a request. A serial that is next is drawn from the tape at the book's place and booked; a copy of a booked one gets what was
 // booked; anything else is refused, and the book stays as it was.
 pub fn deliver(tape: &[u64], book: &mut [u8], serial: u32, request: Request) -> Delivered
-    ensures { λ r. ⌜ call (delivered r) (now (book .exit)) ≡ rules.deliver (now (tape .entry)) (now (book .entry)) serial request ⌝ }
+    ensures { λ r. ⌜ DeliverAllows (now (tape .entry)) (now (book .entry)) serial request r (now (book .exit)) ⌝ }
 {
     match open_book(tape, book) {
         Opened::Refused(refusal) => Delivered::Refused(refusal),
@@ -156,7 +156,7 @@ pub fn deliver(tape: &[u64], book: &mut [u8], serial: u32, request: Request) -> 
 
 // Strikes the last j entries: their bytes become 0, and their serials are fresh again.
 pub fn strike(tape: &[u64], book: &mut [u8], j: u64) -> Struck
-    ensures { λ r. ⌜ call (struck r) (now (book .exit)) ≡ strikes.strike (now (tape .entry)) (now (book .entry)) j ⌝ }
+    ensures { λ r. ⌜ StrikeAllows (now (tape .entry)) (now (book .entry)) j r (now (book .exit)) ⌝ }
 {
     match open_book(tape, book) {
         Opened::Refused(refusal) => Struck::Refused(refusal),

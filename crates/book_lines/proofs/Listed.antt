@@ -24,8 +24,8 @@ use Rattle.layout.specs.declared.Standing.{Standing}
 use Rattle.entry.specs.Entry.{lengthAt, entryAt, blank}
 use Rattle.layout.specs.Book.{decode, mostBytes, bookTooLong, isNone}
 use Rattle.layout.specs.Sound.{offset}
-use Rattle.layout.specs.Walk.{walked}
-use Rattle.entry.specs.Places.{HasEntry}
+use Rattle.layout.specs.Inner.{walked}
+use Rattle.entry.specs.Inner.{HasEntry}
 use Rattle.entry.proofs.Entries.{Fits}
 use Rattle.layout.proofs.Decoding.{written, many, is-some}
 use Rattle.layout.proofs.Positions.{lies-entry, lies-whole, lies-fits, lies-reach}

@@ -21,7 +21,7 @@ use Rattle.entry.specs.Entry.{parameterBytes, fixedBytes, entryBytes, entryAt}
 use Rattle.layout.specs.Book.{lengthAll, usedAll, head, decodeFrom, decode, bookTooLong}
 use Rattle.book.specs.declared.Delivered.{Delivered}
 use Rattle.book.specs.declared.Delivered.the-variants.{Fresh, Refused}
-use Rattle.opening.specs.Calls.{Call, isDamaged, booked}
+use Rattle.opening.specs.Calls.{isDamagedFor, bookedFor, Call}
 use Rattle.book.specs.Deliver.{Booking, fresh, delivered, isFull, freshRefusals, deliverRefusals, delivery, deliverTo, deliver}
 use Rattle.book.specs.Worked.{workedBook}
 use Rattle.book.proofs.Worked.{worked}
@@ -54,7 +54,7 @@ untouched a e =
 
 -- one that books the first delivery and only nods at the next: two words and room for two
 pub nods : (a : Delivered) → DeliverAllows (1 ∷ 1 ∷ []) (workedBook ++ replicate 24 0) 2 StandardGeometric a (workedBook ++ replicate 24 0) → ⊥
-unfolding leadingZeros tooLong read endings standardGeometric bytesOf spelled allZero numbered kindOf requestOf parametersOf sameRequest parameterBytes fixedBytes entryBytes wordsFrom entryAt lengthAll usedAll head decodeFrom decode bookTooLong isDamaged booked isFull freshRefusals deliverRefusals delivery deliverTo deliver
+unfolding leadingZeros tooLong read endings standardGeometric bytesOf spelled allZero numbered kindOf requestOf parametersOf sameRequest parameterBytes fixedBytes entryBytes wordsFrom entryAt lengthAll usedAll head decodeFrom decode bookTooLong isDamagedFor bookedFor isFull freshRefusals deliverRefusals delivery deliverTo deliver
 nods a e =
     let z : _≡_ {A = ℕ} 0 24 = ap (λ (x : Call Booking). getD (x .book) 24 0) e in
     omega arith

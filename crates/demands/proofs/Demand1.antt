@@ -7,7 +7,7 @@ use Rattle.kinds.specs.declared.Request.{Request}
 use Rattle.book.specs.declared.Delivered.{Delivered}
 use Rattle.book.specs.declared.Struck.{Struck}
 use Rattle.opening.specs.Calls.{Call, booked}
-use Rattle.layout.specs.Walk.{standing}
+use Rattle.layout.specs.Standing.{standing}
 use Rattle.book.specs.Deliver.{Booking, delivered, deliverTo, deliver, afterDelivery}
 use Rattle.book.specs.Strike.{struck, strikeIn, strike, afterStrike}
 use Rattle.demands.specs.Allowed.{DeliverAllows, StrikeAllows}

@@ -24,7 +24,7 @@ use Rattle.book.specs.declared.Delivered.{Delivered}
 use Rattle.book.specs.declared.Struck.{Struck}
 use Rattle.redraws.specs.declared.Redrawn.{Redrawn}
 use Rattle.opening.specs.Calls.{Call, booked, limits}
-use Rattle.layout.specs.Walk.{standing}
+use Rattle.layout.specs.Standing.{standing}
 use Rattle.book.specs.Deliver.{Booking, isNext, isAhead, isReused, isFull, whenNext, freshRefusals, deliverRefusals, freshly, delivery, deliverTo, deliver, delivered}
 use Rattle.book.specs.Strike.{strikeIn, strike, struck}
 use Rattle.redraws.specs.Redraw.{lowest, Redrawing, redrawOf, redraw, redrawn}

@@ -21,7 +21,7 @@ use Rattle.kinds.proofs.Requests.{same-self}
 use Rattle.layout.proofs.Decoding.{Chain, zeros-equal}
 use Rattle.layout.proofs.Positions.{length-all-append, chain-mid}
 use Rattle.opening.specs.Calls.{Call, call, booked, limits}
-use Rattle.layout.specs.Walk.{standing}
+use Rattle.layout.specs.Standing.{standing}
 use Rattle.book.specs.Deliver.{Booking, fresh, copy, bookedAt, deliverRefusals, delivery, delivering, deliverTo, deliver}
 use Rattle.book.specs.Strike.{strikeRefusals, leftBy, striking, strikeIn, strike}
 use Rattle.redraws.specs.Redraw.{agrees, lowest, redraw}

@@ -31,8 +31,9 @@ use Rattle.layout.proofs.Decoding.{by-test, neither-holds, Chain, many, length-
 use Rattle.layout.proofs.Changing.{chain-snoc, append-encode, wiped-encode}
 use Rattle.layout.proofs.Positions.{length-all-append, used-all-append, length-one, used-one, chain-left, chain-mid}
 use Rattle.opening.specs.Calls.{Call, call, booked, limits}
-use Rattle.layout.specs.Walk.{standing}
-use Rattle.book.specs.Deliver.{Booking, fresh, copy, isNext, isAhead, bookedAt, isReused, isFull, freshRefusals, deliverRefusals, freshly, copied, delivery, delivering, deliverTo, deliver, freshDelivery}
+use Rattle.layout.specs.Standing.{standing}
+use Rattle.book.specs.Deliver.{Booking, fresh, copy, isNext, isAhead, bookedAt, isReused, isFull, freshRefusals, deliverRefusals, freshly, copied, delivery, delivering, deliverTo, deliver}
+use Rattle.book.specs.Inner.{freshDelivery}
 use Rattle.book.specs.Strike.{strikeRefusals, leftBy, striking, strikeIn, strike}
 use Rattle.opening.proofs.Opening.{opens}
 use Rattle.book.proofs.Fresh.{fresh-booked}

@@ -14,7 +14,7 @@ use Rattle.book.specs.declared.Delivered.{Delivered}
 use Rattle.book.specs.declared.Struck.{Struck}
 use Rattle.redraws.specs.declared.Redrawn.{Redrawn}
 use Rattle.opening.specs.Calls.{booked}
-use Rattle.layout.specs.Walk.{standing}
+use Rattle.layout.specs.Standing.{standing}
 use Rattle.book.specs.Deliver.{Booking, delivered, deliverRefusals, delivery, afterDelivery}
 use Rattle.book.specs.Strike.{struck, strikeRefusals, afterStrike}
 use Rattle.redraws.specs.Redraw.{redrawn, redrawRefusals, lowest}

@@ -14,7 +14,8 @@ use Rattle.kinds.specs.Kinds.{fixedLength, kindOf, lengthIn, parametersIn, kind
 use Rattle.kinds.proofs.Table.{shape-length, length-small}
 use Rattle.kinds.proofs.Requests.{request-known, request-shape, request-length, request-again, kind-fits, kind-again, known-request, row-asks, row-asks-none}
 use Rattle.entry.specs.declared.Entry.{Entry}
-use Rattle.entry.specs.Entry.{booking, parameterBytes, fixedBytes, entryBytes, lengthAt, kindAt, serialAt, placeAt, usedAt, countAt, parametersAt, requestAt, entryOf, entryAt, rowAt}
+use Rattle.entry.specs.Entry.{booking, parameterBytes, fixedBytes, entryBytes, lengthAt, kindAt, serialAt, placeAt, usedAt, countAt, parametersAt, requestAt, entryOf, entryAt}
+use Rattle.entry.specs.Inner.{rowAt}
 
 -- an entry's numbers fit their fields
 pub record Fits (e : Entry) : Type 0 where

@@ -2,12 +2,11 @@
 use Prim.Native.Nat.{ℕ, _+_}
 use mathlib.Core.List.{List, [], _∷_, _++_}
 use mathlib.Core.Option.{Option, Option·map}
-use lib.ListN.{getD, drop}
+use lib.ListN.{drop}
 use Rattle.bytes_le.specs.LittleEndian.{bytesOf, spelled, wordsFrom}
 use Rattle.kinds.specs.declared.Request.{Request}
 use Rattle.kinds.specs.declared.Request.the-variants.{StandardGeometric}
-use Rattle.kinds.specs.declared.Row.{Row}
-use Rattle.kinds.specs.Kinds.{fixedLength, kindOf, parametersIn, kindNumber, parametersOf, lengthOf, requestOf, rowOf}
+use Rattle.kinds.specs.Kinds.{fixedLength, kindOf, parametersIn, kindNumber, parametersOf, lengthOf, requestOf}
 use Rattle.entry.specs.declared.Entry.{Entry}
 
 -- a booking: what was asked for, its serial, the tape's place before the draw (01's `at`), the words used and the count
@@ -71,7 +70,3 @@ entryOf r b i = booking r (serialAt b i) (placeAt b i) (usedAt b i) (countAt b i
 -- the entry that begins at i; none where its kind is not of the table
 unfoldable pub entryAt : List ℕ → ℕ → Option Entry
 entryAt b i = Option·map (λ (r : Request). entryOf r b i) (requestAt fixedLength b i)
-
--- what the table has for its kind and parameters
-abbrev pub rowAt : ℕ → List ℕ → ℕ → Row
-rowAt f b i = let ps = parametersAt f b i in rowOf (kindAt b i) (getD ps 0 0) (getD ps 1 0) (getD ps 2 0)

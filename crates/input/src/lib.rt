@@ -1,7 +1,7 @@
 // Bytes from a descriptor, an error told from the end, which the kit's `read_full` can't. What is read no contract can say; how many
 // bytes of the buffer it fills, these do.
 ghost use lib.ListN.{length};
-ghost use Rattle.input.specs.Within.{Within};
+ghost use Rattle.input.specs.Inner.{Within};
 
 // What reading gave: so many bytes, 0 at the end; or that it failed.
 pub enum Got {

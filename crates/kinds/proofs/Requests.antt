@@ -15,7 +15,8 @@ use Rattle.kinds.specs.declared.Parts.{Parts}
 use Rattle.kinds.specs.declared.Request.{Request}
 use Rattle.kinds.specs.declared.Row.the-variants.{Of, Unknown}
 use Rattle.kinds.specs.declared.Request.the-variants.{Hypergeometric, Poisson, Geometric, StandardGeometric}
-use Rattle.kinds.specs.Kinds.{fixedLength, Kind, table, numbered, kindOf, lengthIn, parametersIn, requestOf, partsOf, kindNumber, three, parametersOf, lengthOf, Alike, sameParts, sameRequest, row, rowOf}
+use Rattle.kinds.specs.Kinds.{fixedLength, Kind, table, numbered, kindOf, lengthIn, parametersIn, requestOf, partsOf, kindNumber, three, parametersOf, lengthOf, sameParts, sameRequest}
+use Rattle.kinds.specs.Inner.{Alike, row, rowOf}
 use Rattle.kinds.proofs.Table.{row-none, Each, found, Listed, listed, by-kind, shape-length, known}
 
 -- a request is the one of its kind and parameters: a line a kind

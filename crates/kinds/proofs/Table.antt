@@ -10,7 +10,8 @@ use borrow.Author.Needs.{needs}
 use borrow.Author.Tests.{ne-eqb, eqb-true, ltb-true, leb-true}
 use Rattle.kinds.specs.declared.Request.{Request}
 use Rattle.kinds.specs.declared.Row.the-variants.{Of, Unknown}
-use Rattle.kinds.specs.Kinds.{fixedLength, Kind, table, numbered, kindOf, lengthIn, parametersIn, row, rowOf}
+use Rattle.kinds.specs.Kinds.{fixedLength, Kind, table, numbered, kindOf, lengthIn, parametersIn}
+use Rattle.kinds.specs.Inner.{row, rowOf}
 
 -- ---- what a row tells
 

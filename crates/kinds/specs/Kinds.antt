@@ -3,14 +3,11 @@ use Prim.Native.Nat.{ℕ, _^_, _<_}
 use mathlib.Core.Bool.{Bool, cond, _&&_}
 use mathlib.Core.List.{List, [], _∷_}
 use mathlib.Core.Option.{Option, none, some, Option·map}
-use mathlib.Core.Path.{_≡_}
 use lib.Dec.{eqb}
 use lib.ListN.{getD, take}
 use Rattle.kinds.specs.declared.Parts.{Parts}
 use Rattle.kinds.specs.declared.Request.{Request}
 use Rattle.kinds.specs.declared.Request.the-variants.{Hypergeometric, Poisson, Geometric, StandardGeometric}
-use Rattle.kinds.specs.declared.Row.{Row}
-use Rattle.kinds.specs.declared.Row.the-variants.{Of, Unknown}
 
 -- every entry begins with so many bytes, its fixed fields; its parameters stand after them, 8 bytes each
 abbrev pub fixedLength : ℕ
@@ -99,19 +96,3 @@ AllFit (x ∷ xs) = (x < 2 ^ 64) × AllFit xs
 
 abbrev pub RequestFits : Request → Type 0
 RequestFits r = AllFit (parametersOf r)
-
--- ---- the code's types in these terms
-
-abbrev pub row : Option Kind → ℕ → ℕ → ℕ → Row
-row none a b c = Unknown
-row (some x) a b c = Of (x .length) (x .parameters) (x .makes a b c)
-
-abbrev pub rowOf : ℕ → ℕ → ℕ → ℕ → Row
-rowOf k a b c = row (kindOf k) a b c
-
--- field by field the same
-pub record Alike (p q : Parts) : Type 0 where
-  pub kind : p .kind ≡ q .kind
-  pub first : p .first ≡ q .first
-  pub second : p .second ≡ q .second
-  pub third : p .third ≡ q .third

@@ -1,6 +1,7 @@
 // What may be asked for, and the table of kinds: a kind's number, its entry's length, its parameters, and the request that they make.
 ghost use mathlib.Core.Path.{_≡_};
-ghost use Rattle.kinds.specs.Kinds.{rowOf, lengthIn, parametersIn, kindOf, kindNumber, lengthOf, partsOf, Alike, sameParts, sameRequest};
+ghost use Rattle.kinds.specs.Kinds.{lengthIn, parametersIn, kindOf, kindNumber, lengthOf, partsOf, sameParts, sameRequest};
+ghost use Rattle.kinds.specs.Inner.{rowOf, Alike};
 
 // A request of any kind that a book can hold, with its parameters as a book holds them, floats by their 64 bits.
 pub enum Request {

@@ -14,8 +14,8 @@ use Rattle.entry.specs.declared.Entry.{Entry}
 use Rattle.entry.specs.Entry.{entryBytes, lengthAt, kindAt, serialAt, placeAt, usedAt, entryOf, entryAt}
 use Rattle.layout.specs.Book.{entriesBytes, lengthAll, usedAll, decode}
 use Rattle.layout.specs.Sound.{offset, usedBefore}
-use Rattle.entry.specs.Places.{HasEntry}
-use Rattle.layout.specs.Places.{Reaches}
+use Rattle.entry.specs.Inner.{HasEntry}
+use Rattle.layout.specs.Inner.{Reaches}
 use Rattle.entry.proofs.Entries.{Fits, entry-read, length-read, entry-tells, entry-kind}
 use Rattle.layout.proofs.Decoding.{Chain, Written, written, length-least, length-entries}
 

@@ -25,7 +25,8 @@ use Rattle.layout.specs.declared.Standing.{Standing}
 use Rattle.entry.specs.Entry.{lengthAt, kindAt, serialAt, placeAt, usedAt, requestAt, entryOf}
 use Rattle.layout.specs.Book.{lengthAll, usedAll, head, isClosed, decodeFrom, decode}
 use Rattle.layout.specs.Sound.{offset}
-use Rattle.layout.specs.Walk.{stands, standing, telling, walked}
+use Rattle.layout.specs.Standing.{stands, standing}
+use Rattle.layout.specs.Inner.{telling, walked}
 use Rattle.entry.proofs.Entries.{entry-there}
 use Rattle.layout.proofs.Decoding.{head-next, fitting-known, fitting-request, fitting-size}
 

@@ -1,4 +1,4 @@
 pub mod Book
 pub mod Sound
-pub mod Walk
-pub mod Places
+pub mod Standing
+pub mod Inner

@@ -19,14 +19,16 @@ use Rattle.entry.specs.declared.Entry.{Entry}
 use Rattle.entry.specs.Entry.{lengthAt, entryAt, blank}
 use Rattle.layout.specs.Book.{lengthAll, usedAll, decode, mostBytes, bookTooLong, isNone}
 use Rattle.layout.specs.Sound.{offset}
-use Rattle.layout.specs.Walk.{walked, standing}
-use Rattle.entry.specs.Places.{HasEntry}
-use Rattle.layout.specs.Places.{Reaches}
+use Rattle.layout.specs.Standing.{standing}
+use Rattle.layout.specs.Inner.{walked}
+use Rattle.entry.specs.Inner.{HasEntry}
+use Rattle.layout.specs.Inner.{Reaches}
 use Rattle.kinds.specs.Kinds.{fixedLength}
 use Rattle.layout.proofs.Decoding.{written, many, is-some}
 use Rattle.layout.proofs.Positions.{length-all-append, lies-offset, lies-entry, lies-whole, lies-on-tape, lies-reach}
 use Rattle.layout.proofs.Walking.{walked-damaged, walked-sound}
-use Rattle.opening.specs.Calls.{isDamaged, booked, limits, IsOpen, opened}
+use Rattle.opening.specs.Calls.{isDamagedFor, bookedFor, booked, limits}
+use Rattle.opening.specs.Inner.{IsOpen, opened}
 use Rattle.layout.specs.declared.Standing.{Standing}
 
 module _ (ws b : List ℕ) where
@@ -34,7 +36,7 @@ module _ (ws b : List ℕ) where
 
   -- a call that passed them has the entries of a sound book
   pub open-decodes : NoneHolds (limits ws b) → decode (length ws) b ≡ some (booked ws b)
-  unfolding booked isDamaged
+  unfolding bookedFor isDamagedFor
   open-decodes h = is-some (decode (length ws) b) (h .1 .1 .0)
 
   -- a tape and a book within their limits
@@ -47,7 +49,7 @@ module _ (ws b : List ℕ) where
 
   -- and the other way round
   pub opens : (es : List Entry) → length ws ≤ mostWords → length b ≤ mostBytes → decode (length ws) b ≡ some es → NoneHolds (limits ws b) × (booked ws b ≡ es)
-  unfolding booked bookTooLong isDamaged
+  unfolding bookedFor bookTooLong isDamagedFor
   opens es h g e = (
     (limit-within ws h, (le-ltb mostBytes (length b) g, (ap isNone e, tt))),
     ap (λ (o : Option (List Entry)). Option·getD o []) e,
@@ -75,7 +77,7 @@ module _ (ws b : List ℕ) where
 
     module _ (g : bookTooLong b ≡ false) where
       pub opened-damaged : Damaged ≡ walked (length ws) b → refused 12 ≡ opened ws b
-      unfolding opened isDamaged
+      unfolding opened isDamagedFor
       opened-damaged e = rw (h, g, walked-damaged (length ws) b e)
 
       pub opened-sound : (st : Standing) → Sound st ≡ walked (length ws) b → drawn st 0 ≡ opened ws b

@@ -5,7 +5,7 @@ use layout::walk;
 use words::Refusal;
 use words::too_long;
 ghost use mathlib.Core.Path.{_≡_};
-ghost use Rattle.opening.specs.Calls.{opened, openedAs};
+ghost use Rattle.opening.specs.Inner.{opened, openedAs};
 
 // How a book stands that is sound for its tape, or why a call goes no further.
 pub enum Opened {

@@ -2,7 +2,7 @@
 ghost use lib.ListN.{length};
 ghost use Prim.Native.Nat.{_≤_};
 ghost use Rattle.io.specs.Counts.{Counts};
-ghost use Rattle.pull.specs.Within.{KeptWithin};
+ghost use Rattle.pull.specs.Inner.{KeptWithin};
 use bytes_le::all_zero;
 use input::Got;
 use input::fill;

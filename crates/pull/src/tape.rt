@@ -1,7 +1,7 @@
 // The tape: a file of 64-bit words, the lowest byte first.
 ghost use Prim.Native.Nat.{_≤_};
 ghost use lib.ListN.{length};
-ghost use Rattle.pull.specs.Within.{LoadedWithin, TakenWithin};
+ghost use Rattle.pull.specs.Inner.{LoadedWithin, TakenWithin};
 use bytes_le::read_words;
 use input::Got;
 use input::fill;

@@ -3,6 +3,7 @@ use Prim.Native.Nat.{ℕ}
 use mathlib.Core.Bool.{Bool, false, cond, not, _&&_}
 use mathlib.Core.List.{List, [], _∷_, _++_}
 use mathlib.Core.Option.{Option, none, some}
+use mathlib.Core.Path.{_≡_}
 use lib.Dec.{eqb}
 use lib.ListN.{length, drop}
 use Rattle.words.specs.Outcome.{Outcome, drawn, refused}
@@ -54,3 +55,7 @@ abbrev pub redrawn : Redrawn → Redrawing
 redrawn (Agrees n) = record { outcome = drawn n 0; named = none }
 redrawn (Differs s) = record { outcome = refused 17; named = some s }
 redrawn (Refused x) = record { outcome = refused (numberOf x); named = none }
+
+-- The contract of `redraw`: over the words ws and the book b, the answer a is the rule's. The book can't be written.
+abbrev pub RedrawAllows : List ℕ → List ℕ → Redrawn → Type 0
+RedrawAllows ws b a = redrawn a ≡ redraw ws b

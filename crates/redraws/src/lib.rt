@@ -11,8 +11,7 @@ ghost use Prim.Native.Nat.{_≤_};
 ghost use lib.ListN.{length};
 ghost use Rattle.words.specs.Refusals.{NoneHolds};
 ghost use Rattle.opening.specs.Calls.{booked, limits};
-ghost use Rattle.redraws.specs.Redraw.{agrees, redrawn};
-ghost use Rattle.redraws.specs.Redraw as rules;
+ghost use Rattle.redraws.specs.Redraw.{RedrawAllows, agrees};
 
 // What a redraw answers: that all of so many entries agree, the lowest serial that doesn't (refusal 17), or why nothing was drawn again.
 pub enum Redrawn {
@@ -42,7 +41,7 @@ fn agrees_on(tape: &[u64], entry: Entry) -> bool
 // Draws every entry of a sound book again.
 fn redraw_all(tape: &[u64], book: &[u8], entries: u64) -> Redrawn
     requires { ⌜ NoneHolds (limits (now tape) (now book)) × (entries ≡ length (booked (now tape) (now book))) ⌝ }
-    ensures { λ r. ⌜ redrawn r ≡ rules.redraw (now (tape .entry)) (now (book .entry)) ⌝ }
+    ensures { λ r. ⌜ RedrawAllows (now (tape .entry)) (now (book .entry)) r ⌝ }
 {
     let mut at: usize = 0;
     let mut i: u64 = 0;
@@ -61,7 +60,7 @@ fn redraw_all(tape: &[u64], book: &[u8], entries: u64) -> Redrawn
 
 // Draws every entry again from its place. The book is only read.
 pub fn redraw(tape: &[u64], book: &[u8]) -> Redrawn
-    ensures { λ r. ⌜ redrawn r ≡ rules.redraw (now (tape .entry)) (now (book .entry)) ⌝ }
+    ensures { λ r. ⌜ RedrawAllows (now (tape .entry)) (now (book .entry)) r ⌝ }
 {
     match open_book(tape, book) {
         Opened::Refused(refusal) => Redrawn::Refused(refusal),

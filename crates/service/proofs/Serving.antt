@@ -15,7 +15,7 @@ use Rattle.kinds.specs.declared.Request.{Request}
 use Rattle.entry.specs.declared.Entry.{Entry}
 use Rattle.layout.specs.Book.{lengthAll}
 use Rattle.opening.specs.Calls.{Call, call, booked}
-use Rattle.layout.specs.Walk.{standing}
+use Rattle.layout.specs.Standing.{standing}
 use Rattle.layout.specs.declared.Standing.{Standing}
 use Rattle.book.specs.Deliver.{Booking, fresh, copy, afterDelivery, deliverTo, deliver}
 use Rattle.book.specs.Strike.{leftBy, afterStrike, strikeIn, strike}

@@ -1,7 +1,7 @@
 -- `deliver` meets its contract: stopped by the first refusals, or delivered into a sound book. Assumes nothing.
 use borrow.Author.Needs.{needs}
 use mathlib.Core.Path.{sym, ap, _∙_}
-use Rattle.opening.specs.Calls.{openedAs}
+use Rattle.opening.specs.Inner.{openedAs}
 use Rattle.opening.proofs.Opening.{refused-opening, sound-opening}
 use Rattle.book.proofs.Delivering.{deliver-stopped}
 use Rattle.book.proofs.deliver.Statement.{statement}

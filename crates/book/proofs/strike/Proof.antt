@@ -7,7 +7,8 @@ use native.Mathlib.Omega.{arith}
 use lib.ListN.{length}
 use Rattle.bytes_le.proofs.Numbers.{Bytes}
 use Rattle.layout.specs.Book.{lengthAll}
-use Rattle.opening.specs.Calls.{booked, IsOpen, openedAs}
+use Rattle.opening.specs.Calls.{booked}
+use Rattle.opening.specs.Inner.{IsOpen, openedAs}
 use Rattle.layout.specs.declared.Standing.{Standing}
 use Rattle.opening.proofs.Opening.{refused-opening, sound-opening, open-room, open-reach, open-within}
 use Rattle.book.proofs.Striking.{strike-stopped, strike-many, struck-left}

@@ -7,10 +7,12 @@ use native.Mathlib.Omega.{arith}
 use lib.ListN.{length, getD, drop}
 use Rattle.bytes_le.specs.LittleEndian.{wordsFrom}
 use Rattle.bytes_le.proofs.Numbers.{Bytes, bytes-drop, spelled-lt}
-use Rattle.kinds.specs.Kinds.{fixedLength, kindOf, parametersIn, rowOf}
+use Rattle.kinds.specs.Kinds.{fixedLength, kindOf, parametersIn}
+use Rattle.kinds.specs.Inner.{rowOf}
 use Rattle.kinds.proofs.Table.{shape-length}
-use Rattle.entry.specs.Entry.{kindAt, rowAt}
-use Rattle.entry.specs.Places.{HasEntry}
+use Rattle.entry.specs.Entry.{kindAt}
+use Rattle.entry.specs.Inner.{rowAt}
+use Rattle.entry.specs.Inner.{HasEntry}
 use Rattle.entry.proofs.row_at.Statement.{statement}
 use Rattle.entry.proofs.row_at.Tie as tie
 

@@ -11,7 +11,7 @@ use Rattle.kinds.specs.Kinds.{fixedLength}
 use Rattle.layout.specs.declared.Head.the-variants.{Next}
 use Rattle.entry.specs.Entry.{lengthAt, usedAt}
 use Rattle.layout.specs.Book.{head}
-use Rattle.layout.specs.Walk.{walked}
+use Rattle.layout.specs.Inner.{walked}
 use Rattle.layout.proofs.Walking.{rest, walk-start, walk-ended, walk-damaged, next-room, next-place, rest-next}
 use Rattle.layout.proofs.walk.Statement.{statement}
 use Rattle.layout.proofs.walk.Tie as tie

@@ -3,7 +3,7 @@ use borrow.Author.Needs.{needs}
 use mathlib.Core.Path.{subst}
 use lib.ListN.{length}
 use Rattle.io.specs.Counts.{Counts}
-use Rattle.pull.specs.Within.{LoadedWithin}
+use Rattle.pull.specs.Inner.{LoadedWithin}
 use Rattle.pull.proofs.Room.{counts}
 use Rattle.pull.proofs.main.Statement.{statement}
 use Rattle.pull.proofs.main.Tie as tie

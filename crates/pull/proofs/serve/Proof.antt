@@ -3,7 +3,7 @@ use borrow.Author.Needs.{needs}
 use mathlib.Core.Path.{subst}
 use lib.ListN.{length}
 use Rattle.io.specs.Counts.{Counts}
-use Rattle.pull.specs.Within.{KeptWithin}
+use Rattle.pull.specs.Inner.{KeptWithin}
 use Rattle.pull.proofs.Room.{counts}
 use Rattle.pull.proofs.serve.Statement.{statement}
 use Rattle.pull.proofs.serve.Tie as tie

@@ -1,7 +1,7 @@
 -- `redraw` meets its contract: stopped, or every entry of a sound book drawn again. Assumes nothing.
 use borrow.Author.Needs.{needs}
 use mathlib.Core.Path.{sym, ap, _∙_}
-use Rattle.opening.specs.Calls.{openedAs}
+use Rattle.opening.specs.Inner.{openedAs}
 use Rattle.layout.specs.declared.Standing.{Standing}
 use Rattle.opening.proofs.Opening.{refused-opening, sound-opening}
 use Rattle.redraws.proofs.Redrawing.{redraw-stopped}

@@ -4,7 +4,7 @@ use mathlib.Core.Path.{sym, subst}
 use lib.ListN.{length}
 use lib.Seq.{length-take-le}
 use Rattle.io.specs.Counts.{Counts}
-use Rattle.input.specs.Within.{Within}
+use Rattle.input.specs.Inner.{Within}
 use Rattle.pull.proofs.Room.{counts}
 use Rattle.pull.proofs.lines.take_some.Statement.{statement}
 use Rattle.pull.proofs.lines.take_some.Tie as tie

@@ -2,7 +2,7 @@
 use borrow.Author.Needs.{needs}
 use mathlib.Core.Path.{subst}
 use lib.ListN.{length}
-use Rattle.input.specs.Within.{Within}
+use Rattle.input.specs.Inner.{Within}
 use Rattle.pull.proofs.store.load.Statement.{statement}
 use Rattle.pull.proofs.store.load.Tie as tie
 

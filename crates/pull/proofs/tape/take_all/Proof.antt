@@ -3,7 +3,7 @@ use borrow.Author.Needs.{needs}
 use mathlib.Core.Path.{_≡_, subst}
 use Prim.Native.Nat.{_≤_, _-_}
 use lib.ListN.{length}
-use Rattle.pull.specs.Within.{TakenWithin}
+use Rattle.pull.specs.Inner.{TakenWithin}
 use Rattle.pull.specs.declared.tape.Taken.{Taken}
 use Rattle.pull.proofs.tape.take_all.Statement.{statement}
 use Rattle.pull.proofs.tape.take_all.Tie as tie

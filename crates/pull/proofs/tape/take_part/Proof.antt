@@ -3,7 +3,7 @@ use borrow.Author.Needs.{needs}
 use mathlib.Core.Path.{subst}
 use Prim.Native.Nat.{_≤_}
 use lib.ListN.{length}
-use Rattle.input.specs.Within.{Within}
+use Rattle.input.specs.Inner.{Within}
 use Rattle.pull.proofs.tape.take_part.Statement.{statement}
 use Rattle.pull.proofs.tape.take_part.Tie as tie
 
