@@ -2,3 +2,4 @@ pub mod Fresh
 pub mod Delivering
 pub mod Striking
 pub mod Worked
+pub mod Elsewhere

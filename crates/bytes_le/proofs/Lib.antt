@@ -1,3 +1,4 @@
 pub mod Numbers
 pub mod Zeros
 pub mod Runs
+pub mod Elsewhere
