@@ -8,26 +8,22 @@ use Rattle.redraws.specs.Redraw.{Redrawing}
 use Rattle.writing.specs.Digits.{decimal}
 use Rattle.lines.specs.Lines.{line, refusedText, refusedLine, serialText, usedText, countText}
 
--- `booked`, `copy`, `left`, `agrees`
+-- the words that begin an answer
 abbrev pub bookedText : List ℕ
-bookedText = 98 ∷ 111 ∷ 111 ∷ 107 ∷ 101 ∷ 100 ∷ []
+bookedText = 98 ∷ 111 ∷ 111 ∷ 107 ∷ 101 ∷ 100 ∷ []  -- "booked"
 
 abbrev pub copyText : List ℕ
-copyText = 99 ∷ 111 ∷ 112 ∷ 121 ∷ []
+copyText = 99 ∷ 111 ∷ 112 ∷ 121 ∷ []  -- "copy"
 
 abbrev pub leftText : List ℕ
-leftText = 108 ∷ 101 ∷ 102 ∷ 116 ∷ []
+leftText = 108 ∷ 101 ∷ 102 ∷ 116 ∷ []  -- "left"
 
 abbrev pub agreesText : List ℕ
-agreesText = 97 ∷ 103 ∷ 114 ∷ 101 ∷ 101 ∷ 115 ∷ []
+agreesText = 97 ∷ 103 ∷ 114 ∷ 101 ∷ 101 ∷ 115 ∷ []  -- "agrees"
 
 -- a booking or a copy of it: `booked serial 7 count 2 used 1`
 unfoldable pub countLine : List ℕ → ℕ → ℕ → ℕ → List ℕ
 countLine t s c u = line (t ∷ serialText ∷ decimal s ∷ countText ∷ decimal c ∷ usedText ∷ decimal u ∷ [])
-
--- its words after the first
-unfoldable pub countsAfter : ℕ → ℕ → ℕ → List ℕ
-countsAfter s c u = line (serialText ∷ decimal s ∷ countText ∷ decimal c ∷ usedText ∷ decimal u ∷ [])
 
 -- a delivery of the serial s
 abbrev pub deliveryLine : ℕ → Outcome Booking → List ℕ
@@ -35,12 +31,12 @@ deliveryLine s (drawn (fresh c) u) = countLine bookedText s c u
 deliveryLine s (drawn (copy c) u) = countLine copyText s c u
 deliveryLine s (refused n) = refusedLine n
 
--- a strike: the number of entries left
+-- a strike: the number of entries left, `left 8`
 abbrev pub strikeLine : Outcome ℕ → List ℕ
 strikeLine (drawn n u) = line (leftText ∷ decimal n ∷ [])
 strikeLine (refused n) = refusedLine n
 
--- a redraw: the number of entries that agree, or the serial that a 17 names
+-- a redraw: the number of entries that agree, `agrees 10`, or the serial that a 17 names, `refused 17 serial 4`
 abbrev pub namedLine : ℕ → Option ℕ → List ℕ
 namedLine n none = refusedLine n
 namedLine n (some s) = line (refusedText ∷ decimal n ∷ serialText ∷ decimal s ∷ [])
@@ -52,12 +48,12 @@ outcomeLine (refused n) s = namedLine n s
 abbrev pub redrawLine : Redrawing → List ℕ
 redrawLine o = outcomeLine (o .outcome) (o .named)
 
--- `unread line`, and the line's number
+-- a line that can't be read, by its number: `unread line 34`
 abbrev pub unreadText : List ℕ
-unreadText = 117 ∷ 110 ∷ 114 ∷ 101 ∷ 97 ∷ 100 ∷ []
+unreadText = 117 ∷ 110 ∷ 114 ∷ 101 ∷ 97 ∷ 100 ∷ []  -- "unread"
 
 abbrev pub lineText : List ℕ
-lineText = 108 ∷ 105 ∷ 110 ∷ 101 ∷ []
+lineText = 108 ∷ 105 ∷ 110 ∷ 101 ∷ []  -- "line"
 
 unfoldable pub unreadLine : ℕ → List ℕ
 unreadLine n = line (unreadText ∷ lineText ∷ decimal n ∷ [])

@@ -17,7 +17,8 @@ ghost use Rattle.book.specs.Deliver.{delivered};
 ghost use Rattle.book.specs.Strike.{struck};
 ghost use Rattle.redraws.specs.Redraw.{redrawn};
 ghost use Rattle.writing.specs.Writing.{Writes};
-ghost use Rattle.answer_lines.specs.Answers.{countsAfter, deliveryLine, namedLine, redrawLine, strikeLine, unreadLine};
+ghost use Rattle.answer_lines.specs.Answers.{deliveryLine, namedLine, redrawLine, strikeLine, unreadLine};
+ghost use Rattle.answer_lines.specs.Inner.{countsAfter};
 
 // Room for any line that answers a call.
 pub const ANSWER_BYTES: usize = 80;

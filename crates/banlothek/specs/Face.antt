@@ -4,9 +4,12 @@ use mathlib.Core.Path.{_≡_}
 use mathlib.Core.List.{List}
 use mathlib.Core.Option.{Option·getD}
 use Rattle.words.specs.Outcome.{Outcome, drawn, refused}
+use Rattle.kinds.specs.declared.Request.{Request}
+use Rattle.draws.specs.Request.{drawOf}
 use Rattle.opening.specs.Calls.{Call}
-use Rattle.book.specs.Deliver.{Booking, fresh, copy}
-use Rattle.redraws.specs.Redraw.{Redrawing}
+use Rattle.book.specs.Deliver.{Booking, fresh, copy, deliver}
+use Rattle.book.specs.Strike.{strike}
+use Rattle.redraws.specs.Redraw.{Redrawing, redraw}
 use Rattle.banlothek.specs.declared.BanlothekAnswer.{BanlothekAnswer}
 
 -- a call that is accepted: refusal 0, and no serial
@@ -40,3 +43,17 @@ ofRedraw r = naming (r .outcome) (Option·getD (r .named) 0)
 pub record Meets {A : Type 0} (fields : Outcome A → BanlothekAnswer) (c : Call A) (r : BanlothekAnswer) (book : List ℕ) : Type 0 where
   pub answers : r ≡ fields (c .outcome)
   pub leaves : book ≡ c .book
+
+-- The contracts, over the words ws and the book b at entry: the answer a, and the book c at exit, of a draw or a delivery of the request r,
+-- a strike, a redraw.
+abbrev pub DrawTells : Request → List ℕ → BanlothekAnswer → Type 0
+DrawTells r ws a = a ≡ plain (drawOf r ws)
+
+abbrev pub DeliverTells : List ℕ → List ℕ → ℕ → Request → BanlothekAnswer → List ℕ → Type 0
+DeliverTells ws b s r a c = Meets ofDelivery (deliver ws b s r) a c
+
+abbrev pub StrikeTells : List ℕ → List ℕ → ℕ → BanlothekAnswer → List ℕ → Type 0
+StrikeTells ws b j a c = Meets plain (strike ws b j) a c
+
+abbrev pub RedrawTells : List ℕ → List ℕ → BanlothekAnswer → Type 0
+RedrawTells ws b a = a ≡ ofRedraw (redraw ws b)

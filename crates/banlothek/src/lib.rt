@@ -13,11 +13,7 @@ ghost use Prim.Native.Nat.{_<_, _^_};
 ghost use Rattle.words.specs.Outcome.{usedOf};
 ghost use Rattle.words.specs.Paper.{numberOf, paper};
 ghost use Rattle.kinds.specs.declared.Request.the-variants.{Hypergeometric, Poisson, Geometric, StandardGeometric};
-ghost use Rattle.draws.specs.Request.{drawOf};
-ghost use Rattle.book.specs.Deliver as deliveries;
-ghost use Rattle.book.specs.Strike as strikes;
-ghost use Rattle.redraws.specs.Redraw as redraws;
-ghost use Rattle.banlothek.specs.Face.{Meets, accepted, refusedBy, plain, ofDelivery, ofRedraw};
+ghost use Rattle.banlothek.specs.Face.{DeliverTells, DrawTells, RedrawTells, StrikeTells, accepted, refusedBy, plain};
 
 // What every function answers. The header's `banlothek_answer` has these fields in this order.
 #[repr(C)]
@@ -91,28 +87,28 @@ pub extern "C" fn banlothek_draw_hypergeometric(
     marked: u64,
     sample: u64,
 ) -> BanlothekAnswer
-    ensures { λ r. ⌜ r ≡ plain (drawOf (Hypergeometric total marked sample) (now (tape .entry))) ⌝ }
+    ensures { λ r. ⌜ DrawTells (Hypergeometric total marked sample) (now (tape .entry)) r ⌝ }
 {
     told(hypergeometric::sample(tape, total, marked, sample))
 }
 
 #[no_mangle]
 pub extern "C" fn banlothek_draw_poisson(tape: &[u64], threshold_bits: u64) -> BanlothekAnswer
-    ensures { λ r. ⌜ r ≡ plain (drawOf (Poisson «threshold_bits») (now (tape .entry))) ⌝ }
+    ensures { λ r. ⌜ DrawTells (Poisson «threshold_bits») (now (tape .entry)) r ⌝ }
 {
     told(poisson::sample_bits(tape, threshold_bits))
 }
 
 #[no_mangle]
 pub extern "C" fn banlothek_draw_geometric(tape: &[u64], p_bits: u64) -> BanlothekAnswer
-    ensures { λ r. ⌜ r ≡ plain (drawOf (Geometric «p_bits») (now (tape .entry))) ⌝ }
+    ensures { λ r. ⌜ DrawTells (Geometric «p_bits») (now (tape .entry)) r ⌝ }
 {
     told(geometric::sample_bits(tape, p_bits))
 }
 
 #[no_mangle]
 pub extern "C" fn banlothek_draw_standard_geometric(tape: &[u64]) -> BanlothekAnswer
-    ensures { λ r. ⌜ r ≡ plain (drawOf StandardGeometric (now (tape .entry))) ⌝ }
+    ensures { λ r. ⌜ DrawTells StandardGeometric (now (tape .entry)) r ⌝ }
 {
     told(standard_geometric::sample(tape))
 }
@@ -130,7 +126,7 @@ fn tray(total: u64, marked: u64, sample: u64) -> Request
 }
 
 fn deliver(tape: &[u64], book: &mut [u8], serial: u32, request: Request) -> BanlothekAnswer
-    ensures { λ r. ⌜ Meets ofDelivery (deliveries.deliver (now (tape .entry)) (now (book .entry)) serial request) r (now (book .exit)) ⌝ }
+    ensures { λ r. ⌜ DeliverTells (now (tape .entry)) (now (book .entry)) serial request r (now (book .exit)) ⌝ }
 {
     match book::deliver(tape, book, serial, request) {
         Delivered::Fresh(draw) => accept(0, draw),
@@ -148,7 +144,7 @@ pub extern "C" fn banlothek_deliver_hypergeometric(
     marked: u64,
     sample: u64,
 ) -> BanlothekAnswer
-    ensures { λ r. ⌜ Meets ofDelivery (deliveries.deliver (now (tape .entry)) (now (book .entry)) serial (Hypergeometric total marked sample)) r (now (book .exit)) ⌝ }
+    ensures { λ r. ⌜ DeliverTells (now (tape .entry)) (now (book .entry)) serial (Hypergeometric total marked sample) r (now (book .exit)) ⌝ }
 {
     deliver(tape, book, serial, tray(total, marked, sample))
 }
@@ -160,7 +156,7 @@ pub extern "C" fn banlothek_deliver_poisson(
     serial: u32,
     threshold_bits: u64,
 ) -> BanlothekAnswer
-    ensures { λ r. ⌜ Meets ofDelivery (deliveries.deliver (now (tape .entry)) (now (book .entry)) serial (Poisson «threshold_bits»)) r (now (book .exit)) ⌝ }
+    ensures { λ r. ⌜ DeliverTells (now (tape .entry)) (now (book .entry)) serial (Poisson «threshold_bits») r (now (book .exit)) ⌝ }
 {
     let request = Request::Poisson {
         threshold: threshold_bits,
@@ -175,7 +171,7 @@ pub extern "C" fn banlothek_deliver_geometric(
     serial: u32,
     p_bits: u64,
 ) -> BanlothekAnswer
-    ensures { λ r. ⌜ Meets ofDelivery (deliveries.deliver (now (tape .entry)) (now (book .entry)) serial (Geometric «p_bits»)) r (now (book .exit)) ⌝ }
+    ensures { λ r. ⌜ DeliverTells (now (tape .entry)) (now (book .entry)) serial (Geometric «p_bits») r (now (book .exit)) ⌝ }
 {
     deliver(tape, book, serial, Request::Geometric { p: p_bits })
 }
@@ -186,14 +182,14 @@ pub extern "C" fn banlothek_deliver_standard_geometric(
     book: &mut [u8],
     serial: u32,
 ) -> BanlothekAnswer
-    ensures { λ r. ⌜ Meets ofDelivery (deliveries.deliver (now (tape .entry)) (now (book .entry)) serial StandardGeometric) r (now (book .exit)) ⌝ }
+    ensures { λ r. ⌜ DeliverTells (now (tape .entry)) (now (book .entry)) serial StandardGeometric r (now (book .exit)) ⌝ }
 {
     deliver(tape, book, serial, Request::StandardGeometric)
 }
 
 #[no_mangle]
 pub extern "C" fn banlothek_strike(tape: &[u64], book: &mut [u8], j: u64) -> BanlothekAnswer
-    ensures { λ r. ⌜ Meets plain (strikes.strike (now (tape .entry)) (now (book .entry)) j) r (now (book .exit)) ⌝ }
+    ensures { λ r. ⌜ StrikeTells (now (tape .entry)) (now (book .entry)) j r (now (book .exit)) ⌝ }
 {
     match book::strike(tape, book, j) {
         Struck::Left { entries } => count_entries(entries),
@@ -203,7 +199,7 @@ pub extern "C" fn banlothek_strike(tape: &[u64], book: &mut [u8], j: u64) -> Ban
 
 #[no_mangle]
 pub extern "C" fn banlothek_redraw(tape: &[u64], book: &[u8]) -> BanlothekAnswer
-    ensures { λ r. ⌜ r ≡ ofRedraw (redraws.redraw (now (tape .entry)) (now (book .entry))) ⌝ }
+    ensures { λ r. ⌜ RedrawTells (now (tape .entry)) (now (book .entry)) r ⌝ }
 {
     match redraws::redraw(tape, book) {
         Redrawn::Agrees { entries } => count_entries(entries),

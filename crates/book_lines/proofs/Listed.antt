@@ -3,14 +3,14 @@
 use mathlib.Core.Bool.{true, false}
 use mathlib.Core.Path.{_≡_, refl, sym, ap, _∙_}
 use mathlib.Core.List.{List, [], _∷_, _++_}
-use mathlib.Core.Option.{some}
+use mathlib.Core.Option.{Option, some, Option·getD}
 use Prim.Native.Nat.{ℕ, suc, _+_, _*_, _≤_, _<_}
 use native.Mathlib.Nat.{add-zero}
 use native.Mathlib.Numerals.{add-one}
 use native.Mathlib.Omega.{arith}
-use lib.ListN.{length, getD, drop, length-append, drop-of-length-le}
+use lib.ListN.{length, getD, drop, replicate, length-append, length-replicate, drop-of-length-le}
 use lib.Seq.{drop-cons}
-use borrow.Author.Tests.{ltb-false}
+use borrow.Author.Tests.{ltb-false, le-ltb}
 use Rattle.words.specs.Words.{mostWords}
 use Rattle.words.specs.Outcome.{drawn}
 use Rattle.words.specs.Refusals.{NoneHolds}
@@ -24,10 +24,11 @@ use Rattle.layout.specs.declared.Standing.{Standing}
 use Rattle.entry.specs.Entry.{lengthAt, entryAt, blank}
 use Rattle.layout.specs.Book.{decode, mostBytes, bookTooLong, isNone}
 use Rattle.layout.specs.Sound.{offset}
+use Rattle.opening.specs.Calls.{isDamagedFor, bookedFor}
 use Rattle.layout.specs.Inner.{walked}
 use Rattle.entry.specs.Inner.{HasEntry}
 use Rattle.entry.proofs.Entries.{Fits}
-use Rattle.layout.proofs.Decoding.{written, many, is-some}
+use Rattle.layout.proofs.Decoding.{written, many, is-some, zeros-decode}
 use Rattle.layout.proofs.Positions.{lies-entry, lies-whole, lies-fits, lies-reach}
 use Rattle.layout.proofs.Walking.{walked-damaged, walked-sound}
 use Rattle.writing.specs.Digits.{decimal}
@@ -68,8 +69,8 @@ lines-room (e ∷ es) d h = simp length-append (omega (arith, h 0 (omega arith),
 module _ (b : List ℕ) (by : Bytes b) (h : NoneHolds (listingRefusals b)) where
   -- a book that none of the refusals stops has entries
   decodes : decode mostWords b ≡ some (entriesIn b)
-  unfolding listingRefusals entriesIn
-  decodes = is-some (decode mostWords b) (h .1 .0)
+  unfolding isDamagedFor bookedFor
+  decodes = is-some (decode mostWords b) (h .1 .1 .0)
 
   -- the entry i, which begins at `from`
   module _ (i : ℕ) (l : i < length (entriesIn b)) (from : ℕ) (here : from ≡ offset b i) where
@@ -106,9 +107,9 @@ module _ (b : List ℕ) (by : Bytes b) (h : NoneHolds (listingRefusals b)) where
 
   -- a book has at most 2,730 entries
   pub entries-few : length (entriesIn b) ≤ 2730
-  unfolding listingRefusals bookTooLong
+  unfolding bookTooLong
   entries-few =
-      omega (arith, ltb-false mostBytes (length b) (h .0), written mostWords b (entriesIn b) by decodes .room, many (entriesIn b))
+      omega (arith, ltb-false mostBytes (length b) (h .1 .0), written mostWords b (entriesIn b) by decodes .room, many (entriesIn b))
 
 -- past the last, no line is left to write
 pub lines-done : (es : List Entry) (i : ℕ) (l : List ℕ) (x : ℕ) → length es ≤ i → x ≤ length l → Writes l x (entryLines (drop i es)) l x
@@ -116,11 +117,6 @@ unfolding entryLines
 lines-done es i l x h r = rw (drop-of-length-le es h) (record { bytes = refl; place = sym (add-zero x); room = r })
 
 -- ---- what the listing comes to
-
--- a listing of no entries
-pub empty-listed : listed [] ≡ header ++ endLine 0
-unfolding listed entryLines
-empty-listed = refl
 
 -- the header, the entries' lines and the end one after another
 pub listed-written : {l m d o : List ℕ} {x y z : ℕ} (es : List Entry) (n : ℕ) → n ≡ length es → Writes l 0 header m x
@@ -131,7 +127,7 @@ listed-written es n e u v w = written-next _ _ _ _ _ _ _ _ u (written-next _ _ _
 module _ (b : List ℕ) where
   -- 11: too long
   pub listing-long : bookTooLong b ≡ true → refusedLine 11 ≡ listing b
-  unfolding listing listingOf listingRefusals
+  unfolding listing listingOf
   listing-long g = rw g
 
   -- neither: the entries are listed
@@ -142,12 +138,23 @@ module _ (b : List ℕ) where
   module _ (g : bookTooLong b ≡ false) where
     -- 12: the walk found damage
     pub listing-damaged : Damaged ≡ walked mostWords b → refusedLine 12 ≡ listing b
-    unfolding listing listingOf listingRefusals
+    unfolding listing listingOf isDamagedFor
     listing-damaged e = rw (g, walked-damaged mostWords b e)
 
     -- the walk found a sound book, and the number of its entries
     pub listing-sound : (st : Standing) → Sound st ≡ walked mostWords b → NoneHolds (listingRefusals b) × (st .entries ≡ length (entriesIn b))
-    unfolding listingRefusals entriesIn
+    unfolding isDamagedFor bookedFor
     listing-sound st e =
         let t = walked-sound mostWords b st e in
-        ((g, (ap isNone (t .decoded), tt)), rw (t .decoded) (ap (λ (x : Standing). x .entries) (t .stands)))
+        ((refl, (g, (ap isNone (t .decoded), tt))), rw (t .decoded) (ap (λ (x : Standing). x .entries) (t .stands)))
+
+-- ---- an empty book
+
+-- zero bytes, at most 65,536, are listed as the header and `end 0`
+pub empty-listing : (n : ℕ) → n ≤ mostBytes → listing (replicate n 0) ≡ header ++ endLine 0
+unfolding listed entryLines isDamagedFor bookedFor bookTooLong
+empty-listing n h =
+    let none : decode mostWords (replicate n 0) ≡ some [] = zeros-decode mostWords n in
+    let short : bookTooLong (replicate n 0) ≡ false = le-ltb mostBytes (length (replicate {A = ℕ} n 0)) (omega (arith, length-replicate {A = ℕ} n 0)) in
+    sym (listing-listed (replicate n 0) (refl, (short, (ap isNone none, tt))))
+    ∙ ap (λ (o : Option (List Entry)). listed (Option·getD o [])) none

@@ -1,26 +1,26 @@
 -- 01, 'Draws on both sides of each edge', the listing program: all that it writes of the bytes that it reads. Assumes nothing.
 use Prim.Native.Nat.{ℕ}
 use mathlib.Core.List.{List, [], _∷_, _++_}
-use mathlib.Core.Option.{Option·getD}
 use lib.ListN.{length}
 use Rattle.words.specs.Outcome.{Outcome, drawn, refused}
-use Rattle.words.specs.Refusals.{Condition, _on_, given}
-use Rattle.words.specs.Words.{mostWords}
+use Rattle.words.specs.Refusals.{Condition, given}
+use Rattle.words.specs.Words.{mostWords, isTooLong}
 use Rattle.kinds.specs.Kinds.{kindNumber}
 use Rattle.entry.specs.declared.Entry.{Entry}
-use Rattle.layout.specs.Book.{decode, bookTooLong, isNone}
+use Rattle.opening.specs.Calls.{bookedFor, limitsFor}
 use Rattle.writing.specs.Digits.{decimal}
+use Rattle.writing.specs.Writing.{Writes}
 use Rattle.lines.specs.Lines.{line, refusedLine, serialText, usedText, countText}
 
--- `kind`, `at`, `end`
+-- words of the listing alone
 abbrev pub kindText : List ℕ
-kindText = 107 ∷ 105 ∷ 110 ∷ 100 ∷ []
+kindText = 107 ∷ 105 ∷ 110 ∷ 100 ∷ []  -- "kind"
 
 abbrev pub atText : List ℕ
-atText = 97 ∷ 116 ∷ []
+atText = 97 ∷ 116 ∷ []  -- "at"
 
 abbrev pub endText : List ℕ
-endText = 101 ∷ 110 ∷ 100 ∷ []
+endText = 101 ∷ 110 ∷ 100 ∷ []  -- "end"
 
 -- the first line: `serial kind at used count`
 unfoldable pub header : List ℕ
@@ -42,13 +42,13 @@ endLine n = line (endText ∷ decimal n ∷ [])
 unfoldable pub listed : List Entry → List ℕ
 listed es = header ++ (entryLines es ++ endLine (length es))
 
--- the tape's length is taken as 1,048,576 words, so that no book is refused with 1; then 11 and 12
-unfoldable pub listingRefusals : List ℕ → List Condition
-listingRefusals b = 11 on bookTooLong b ∷ 12 on isNone (decode mostWords b) ∷ []
+-- every call's first refusals, with the tape's length taken as 1,048,576 words: that is not too long, so that no book is refused with 1
+abbrev pub listingRefusals : List ℕ → List Condition
+listingRefusals b = limitsFor (isTooLong mostWords) mostWords b
 
 -- the entries of a sound book
-unfoldable pub entriesIn : List ℕ → List Entry
-entriesIn b = Option·getD (decode mostWords b) []
+abbrev pub entriesIn : List ℕ → List Entry
+entriesIn b = bookedFor mostWords b
 
 unfoldable pub listingOf : List ℕ → Outcome (List Entry)
 listingOf b = given (listingRefusals b) (drawn (entriesIn b) 0)
@@ -60,3 +60,7 @@ listingText (refused n) = refusedLine n
 
 unfoldable pub listing : List ℕ → List ℕ
 listing b = listingText (listingOf b)
+
+-- The contract of `listing`: of the book b its text stands at the front of the bytes out, which makes them after, and n is its length.
+abbrev pub ListingAllows : List ℕ → List ℕ → ℕ → List ℕ → Type 0
+ListingAllows b out n after = Writes out 0 (listing b) after n

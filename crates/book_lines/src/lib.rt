@@ -16,8 +16,7 @@ ghost use Prim.Native.Nat.{_+_, _*_, _≤_};
 ghost use lib.ListN.{length};
 ghost use Rattle.words.specs.Refusals.{NoneHolds};
 ghost use Rattle.writing.specs.Writing.{Writes};
-ghost use Rattle.book_lines.specs.Listing.{entriesIn, entryLine, entryLines, listed, listingRefusals};
-ghost use Rattle.book_lines.specs.Listing as rules;
+ghost use Rattle.book_lines.specs.Listing.{ListingAllows, entriesIn, entryLine, entryLines, listed, listingRefusals};
 
 // Room for the listing of any book: at most 2,730 entries, a line of at most 60 bytes each, the header and the end.
 pub const LISTING_BYTES: usize = 196_608;
@@ -66,7 +65,7 @@ fn put_listed(book: &[u8], entries: u64, out: &mut [u8]) -> usize
 // Writes all that the listing program writes of these bytes, and answers how many bytes that is. A book is tested whole before
 // anything is written.
 pub fn listing(book: &[u8], out: &mut [u8; LISTING_BYTES]) -> usize
-    ensures { λ r. ⌜ Writes (now (out .entry)) 0 (rules.listing (now (book .entry))) (now (out .exit)) r ⌝ }
+    ensures { λ r. ⌜ ListingAllows (now (book .entry)) (now (out .entry)) r (now (out .exit)) ⌝ }
 {
     if layout::is_too_long(book) {
         return put_refused(out, Refusal::BookTooLong);

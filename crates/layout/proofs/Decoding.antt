@@ -155,10 +155,19 @@ encode-decodes t n es c h u =
     unfold encode in
     decodes-from es (suc (length (encode n es))) t 1 0 (n - lengthAll es) c (omega (arith, length-encode n es h, many es)) (omega arith)
 
--- ---- what decodes is the encoding of its entries and zeros
-
 pub zeros-equal : (m k : ℕ) → m ≡ k → replicate {A = ℕ} m 0 ≡ replicate k 0
 zeros-equal m k e = ap (λ (i : ℕ). replicate {A = ℕ} i 0) e
+
+-- zero bytes are the book of no entries
+pub no-entries : (n : ℕ) → encode n [] ≡ replicate n 0
+unfolding encode entriesBytes lengthAll
+no-entries n = zeros-equal (n - 0) n (omega arith)
+
+pub zeros-decode : (t n : ℕ) → decode t (replicate n 0) ≡ some []
+unfolding lengthAll usedAll
+zeros-decode t n = rw (← no-entries n) (encode-decodes t n [] tt (omega arith) (omega arith))
+
+-- ---- what decodes is the encoding of its entries and zeros
 
 -- the bytes l are those of the entries es, from the serial s and the place p on, and zeros
 pub record Written (t s p : ℕ) (l : List ℕ) (es : List Entry) : Type 0 where

@@ -16,28 +16,28 @@ use Rattle.request_line.specs.declared.Line.{Line}
 use Rattle.request_line.specs.declared.Line.the-variants as line
 use Rattle.request_line.specs.Words.{word, words, sameText}
 
--- `deliver`, `strike`, `redraw`
+-- the calls' names
 abbrev pub deliverText : List ℕ
-deliverText = 100 ∷ 101 ∷ 108 ∷ 105 ∷ 118 ∷ 101 ∷ 114 ∷ []
+deliverText = 100 ∷ 101 ∷ 108 ∷ 105 ∷ 118 ∷ 101 ∷ 114 ∷ []  -- "deliver"
 
 abbrev pub strikeText : List ℕ
-strikeText = 115 ∷ 116 ∷ 114 ∷ 105 ∷ 107 ∷ 101 ∷ []
+strikeText = 115 ∷ 116 ∷ 114 ∷ 105 ∷ 107 ∷ 101 ∷ []  -- "strike"
 
 abbrev pub redrawText : List ℕ
-redrawText = 114 ∷ 101 ∷ 100 ∷ 114 ∷ 97 ∷ 119 ∷ []
+redrawText = 114 ∷ 101 ∷ 100 ∷ 114 ∷ 97 ∷ 119 ∷ []  -- "redraw"
 
--- `hypergeometric`, `poisson`, `geometric`, `standard`
+-- the kinds' names
 abbrev pub hypergeometricText : List ℕ
-hypergeometricText = 104 ∷ 121 ∷ 112 ∷ 101 ∷ 114 ∷ 103 ∷ 101 ∷ 111 ∷ 109 ∷ 101 ∷ 116 ∷ 114 ∷ 105 ∷ 99 ∷ []
+hypergeometricText = 104 ∷ 121 ∷ 112 ∷ 101 ∷ 114 ∷ 103 ∷ 101 ∷ 111 ∷ 109 ∷ 101 ∷ 116 ∷ 114 ∷ 105 ∷ 99 ∷ []  -- "hypergeometric"
 
 abbrev pub poissonText : List ℕ
-poissonText = 112 ∷ 111 ∷ 105 ∷ 115 ∷ 115 ∷ 111 ∷ 110 ∷ []
+poissonText = 112 ∷ 111 ∷ 105 ∷ 115 ∷ 115 ∷ 111 ∷ 110 ∷ []  -- "poisson"
 
 abbrev pub geometricText : List ℕ
-geometricText = 103 ∷ 101 ∷ 111 ∷ 109 ∷ 101 ∷ 116 ∷ 114 ∷ 105 ∷ 99 ∷ []
+geometricText = 103 ∷ 101 ∷ 111 ∷ 109 ∷ 101 ∷ 116 ∷ 114 ∷ 105 ∷ 99 ∷ []  -- "geometric"
 
 abbrev pub standardText : List ℕ
-standardText = 115 ∷ 116 ∷ 97 ∷ 110 ∷ 100 ∷ 97 ∷ 114 ∷ 100 ∷ []
+standardText = 115 ∷ 116 ∷ 97 ∷ 110 ∷ 100 ∷ 97 ∷ 114 ∷ 100 ∷ []  -- "standard"
 
 -- a line of k words that has this text as its word i
 abbrev pub isForm : ℕ → ℕ → List ℕ → List ℕ → Bool
@@ -100,7 +100,7 @@ callLine l =
 
 -- empty lines and lines that begin with `#`
 unfoldable pub isPassed : List ℕ → Bool
-isPassed l = eqb (length l) 0 || eqb (getD l 0 0) 35
+isPassed l = eqb (length l) 0 || eqb (getD l 0 0) 35  -- "#"
 
 -- a line, without its newline, is at most 255 bytes
 unfoldable pub readLine : List ℕ → Line

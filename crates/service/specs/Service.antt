@@ -60,3 +60,8 @@ pub record Meets (out : List ℕ) (s : Service) (n : ℕ) (c : Bool) (b : List �
   pub writes : Writes out 0 (s .said) after n
   pub leaves : b ≡ s .book
   pub tells : c ≡ s .changed
+
+-- The contract of `serve`, for the line l, of number k, over the words ws and the book b at entry: n bytes of out, which makes them after, are
+-- the answer; c says whether the book was changed, and d is the book at exit.
+abbrev pub ServeAllows : List ℕ → List ℕ → ℕ → List ℕ → List ℕ → ℕ → Bool → List ℕ → List ℕ → Type 0
+ServeAllows ws b k l out n c d after = Meets out (serve ws b k l) n c d after

@@ -13,8 +13,7 @@ ghost use Rattle.book.specs.Deliver.{delivered};
 ghost use Rattle.book.specs.Deliver as deliveries;
 ghost use Rattle.book.specs.Strike.{struck};
 ghost use Rattle.book.specs.Strike as strikes;
-ghost use Rattle.service.specs.Service.{Meets, delivering, isFresh, isStruck, striking};
-ghost use Rattle.service.specs.Service as rules;
+ghost use Rattle.service.specs.Service.{Meets, ServeAllows, delivering, isFresh, isStruck, striking};
 
 // How many bytes of an answer there are, none where there is nothing to say; and whether the book has to be written before them.
 pub struct Served {
@@ -73,7 +72,7 @@ pub fn serve(
     line: &[u8],
     out: &mut [u8; ANSWER_BYTES],
 ) -> Served
-    ensures { λ r. ⌜ Meets (now (out .entry)) (rules.serve (now (tape .entry)) (now (book .entry)) number (now (line .entry))) (r .length) (r .changed) (now (book .exit)) (now (out .exit)) ⌝ }
+    ensures { λ r. ⌜ ServeAllows (now (tape .entry)) (now (book .entry)) number (now (line .entry)) (now (out .entry)) (r .length) (r .changed) (now (book .exit)) (now (out .exit)) ⌝ }
 {
     match request_line::read(line) {
         Line::Deliver { serial, request } => deliver(tape, book, serial, request, out),

@@ -1,7 +1,8 @@
 -- `answer_lines::delivered_line` meets its contract, answer by answer. Assumes nothing.
 use borrow.Author.Needs.{needs}
 use Rattle.lines.specs.Lines.{line}
-use Rattle.answer_lines.specs.Answers.{countLine, countsAfter}
+use Rattle.answer_lines.specs.Answers.{countLine}
+use Rattle.answer_lines.specs.Inner.{countsAfter}
 use Rattle.answer_lines.proofs.delivered_line.Statement.{statement}
 use Rattle.answer_lines.proofs.delivered_line.Tie as tie
 

@@ -5,7 +5,7 @@ use native.Mathlib.Omega.{arith}
 use lib.ListN.{length}
 use Rattle.writing.specs.Digits.{decimal}
 use Rattle.writing.proofs.Writing.{written-next, length-decimal}
-use Rattle.answer_lines.specs.Answers.{countsAfter}
+use Rattle.answer_lines.specs.Inner.{countsAfter}
 use Rattle.lines.proofs.Lines.{word-next, last-words, number-place}
 use Rattle.answer_lines.proofs.put_draw.Statement.{statement}
 use Rattle.answer_lines.proofs.put_draw.Tie as tie
