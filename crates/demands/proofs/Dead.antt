@@ -22,10 +22,9 @@ use Rattle.layout.specs.Book.{lengthAll, usedAll, head, decodeFrom, decode, boo
 use Rattle.book.specs.declared.Delivered.{Delivered}
 use Rattle.book.specs.declared.Delivered.the-variants.{Fresh, Refused}
 use Rattle.opening.specs.Calls.{isDamagedFor, bookedFor, Call}
-use Rattle.book.specs.Deliver.{Booking, fresh, delivered, isFull, freshRefusals, deliverRefusals, delivery, deliverTo, deliver}
+use Rattle.book.specs.Deliver.{Booking, fresh, delivered, isFull, freshRefusals, deliverRefusals, delivery, deliverTo, deliver, DeliverAllows}
 use Rattle.book.specs.Worked.{workedBook}
 use Rattle.book.proofs.Worked.{worked}
-use Rattle.demands.specs.Allowed.{DeliverAllows}
 
 -- the delivery of the worked book, answered by a and leaving c
 abbrev Answers : Delivered → List ℕ → Type 0

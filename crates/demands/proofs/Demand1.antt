@@ -8,9 +8,8 @@ use Rattle.book.specs.declared.Delivered.{Delivered}
 use Rattle.book.specs.declared.Struck.{Struck}
 use Rattle.opening.specs.Calls.{Call, booked}
 use Rattle.layout.specs.Standing.{standing}
-use Rattle.book.specs.Deliver.{Booking, delivered, deliverTo, deliver, afterDelivery}
-use Rattle.book.specs.Strike.{struck, strikeIn, strike, afterStrike}
-use Rattle.demands.specs.Allowed.{DeliverAllows, StrikeAllows}
+use Rattle.book.specs.Deliver.{Booking, delivered, deliverTo, deliver, afterDelivery, DeliverAllows}
+use Rattle.book.specs.Strike.{struck, strikeIn, strike, afterStrike, StrikeAllows}
 use Rattle.demands.specs.Demand1.{countTold, Demand1}
 
 -- by its contract a call leaves in the book what its answer says
@@ -26,8 +25,8 @@ strike-writes ws b j a c e = rw (ap (λ (x : Call ℕ). x .outcome) e) (ap (λ (
 pub demand-1 : Demand1
 demand-1 =
     record {
-      draws = λ a n e. (ap countOf e, ap usedOf e);
-      set-ups = λ a n e. ap usedOf e;
+      draws = λ d ws a h n e. (ap countOf e, ap usedOf e);
+      set-ups = λ N K m a h n e. ap usedOf e;
       deliveries = λ ws b s r a c h n e. (
         ap countTold e,
         ap usedOf e,

@@ -13,11 +13,15 @@ use Rattle.words.specs.Outcome.{Outcome, drawn, refused}
 use Rattle.words.specs.Refusals.{Condition, _on_, given, First, NoneHolds}
 use Rattle.words.specs.Draw.{shorts, endsBy, endings}
 use Rattle.words.proofs.Exactly.{SomeFirst, exactly, drawn-exactly, some-after, none-given}
+use Rattle.words.proofs.Reading.{refused-not-drawn}
 use Rattle.words.proofs.Short.{ended-first}
 use Rattle.kinds.specs.declared.Request.{Request}
 use Rattle.draws.specs.Request.{parameterRefusals, readingOf}
 use Rattle.draws.proofs.Laws.{request-ends}
 use Rattle.draws.proofs.Demand2 as draws
+use Rattle.hypergeometric.specs.declared.SetUp.{SetUp}
+use Rattle.hypergeometric.specs.SetUp.{setUp, trayRefusals, settled, setUpPaper, SetUpAllows}
+use Rattle.hypergeometric.proofs.Settling.{one-set-up}
 use Rattle.entry.specs.declared.Entry.{Entry}
 use Rattle.layout.proofs.Decoding.{by-test}
 use Rattle.book.specs.declared.Delivered.{Delivered}
@@ -25,12 +29,11 @@ use Rattle.book.specs.declared.Struck.{Struck}
 use Rattle.redraws.specs.declared.Redrawn.{Redrawn}
 use Rattle.opening.specs.Calls.{Call, booked, limits}
 use Rattle.layout.specs.Standing.{standing}
-use Rattle.book.specs.Deliver.{Booking, isNext, isAhead, isReused, isFull, whenNext, freshRefusals, deliverRefusals, freshly, delivery, deliverTo, deliver, delivered}
-use Rattle.book.specs.Strike.{strikeIn, strike, struck}
-use Rattle.redraws.specs.Redraw.{lowest, Redrawing, redrawOf, redraw, redrawn}
+use Rattle.book.specs.Deliver.{Booking, isNext, isAhead, isReused, isFull, whenNext, freshRefusals, deliverRefusals, freshly, delivery, deliverTo, deliver, delivered, DeliverAllows}
+use Rattle.book.specs.Strike.{strikeIn, strike, struck, StrikeAllows}
+use Rattle.redraws.specs.Redraw.{lowest, Redrawing, redrawOf, redraw, redrawn, RedrawAllows}
 use Rattle.book.proofs.Delivering.{copy-unrefused, next-asked}
-use Rattle.demands.specs.Allowed.{DeliverAllows, StrikeAllows, RedrawAllows}
-use Rattle.demands.specs.Demand2.{deliverConditions, strikeConditions, redrawConditions, DeliverDemanded, StrikeDemanded, RedrawDemanded, Demand2}
+use Rattle.demands.specs.Demand2.{deliverConditions, strikeConditions, redrawConditions, SetUpDemanded, DeliverDemanded, StrikeDemanded, RedrawDemanded, Demand2}
 use Rattle.demands.proofs.OneCall.{one-delivered, one-struck, one-redrawn}
 use Rattle.demands.proofs.Demand1.{delivery-writes, strike-writes}
 
@@ -85,17 +88,26 @@ delivery-demanded ws b s r a c e =
           (one-delivered a' a (ap (λ (x : Call Booking). x .outcome) same), ap (λ (x : Call Booking). x .book) same);
     }
 
--- ---- strikes and redraws
+-- ---- set-ups, strikes and redraws
 
--- a number that is told with 0 words used
-told-exactly : (cs : List Condition) (k m u : ℕ) → (given cs (drawn k 0) ≡ drawn m u) ↔ (NoneHolds cs × (m ≡ k) × (u ≡ 0))
+-- what is told with 0 words used
+told-exactly : {A : Type 0} (cs : List Condition) (k m : A) (u : ℕ) → (given cs (drawn k 0) ≡ drawn m u) ↔ (NoneHolds cs × (k ≡ m) × (u ≡ 0))
 told-exactly cs k m u = (
   λ e. let x = drawn-exactly cs (drawn k 0) m u .0 e in (x .0, (cc), (cc)),
   λ h. drawn-exactly cs (drawn k 0) m u .1 (h .0, cc),
 )
 
-told-refusals : (cs : List Condition) (k n : ℕ) → (given cs (drawn k 0) ≡ refused n) ↔ First n cs
-told-refusals cs k = exactly cs (drawn k 0) (λ n e. let z : _≡_ {A = ℕ} 0 1 = cc in absurd (omega arith))
+told-refusals : {A : Type 0} (cs : List Condition) (k : A) (n : ℕ) → (given cs (drawn k 0) ≡ refused n) ↔ First n cs
+told-refusals cs k = exactly cs (drawn k 0) (λ n e. refused-not-drawn n k 0 (sym e))
+
+set-up-demanded : (N K n : ℕ) (a : SetUp) → SetUpAllows N K n a → SetUpDemanded N K n a
+unfolding settled
+set-up-demanded N K n a e =
+    record {
+      readies = λ h u. along e (told-exactly (trayRefusals N K n) (setUp N K n) h u);
+      refuses = λ m. along e (told-refusals (trayRefusals N K n) (setUp N K n) m);
+      one = λ a' e'. one-set-up a' a (e' ∙ sym e);
+    }
 
 strike-demanded : (ws b : List ℕ) (j : ℕ) (a : Struck) (c : List ℕ) → StrikeAllows ws b j a c → StrikeDemanded ws b j a c
 unfolding strike strikeIn
@@ -132,4 +144,11 @@ redraw-demanded ws b a e =
     }
 
 pub demand-2 : Demand2
-demand-2 = record { draws = draws.demand-2; deliveries = delivery-demanded; strikes = strike-demanded; redraws = redraw-demanded }
+demand-2 =
+    record {
+      draws = draws.demand-2;
+      set-ups = set-up-demanded;
+      deliveries = delivery-demanded;
+      strikes = strike-demanded;
+      redraws = redraw-demanded;
+    }

@@ -16,9 +16,9 @@ use Rattle.draws.specs.Request.{drawOf}
 use Rattle.kinds.specs.Kinds.{lengthOf, RequestFits}
 use Rattle.entry.specs.declared.Entry.{Entry}
 use Rattle.entry.specs.Entry.{booking, blank}
-use Rattle.layout.specs.Book.{entriesBytes, lengthAll, usedAll, encode, mostBytes}
+use Rattle.layout.specs.Book.{lengthAll, usedAll, encode, mostBytes}
 use Rattle.kinds.proofs.Requests.{same-self}
-use Rattle.layout.proofs.Decoding.{Chain, zeros-equal}
+use Rattle.layout.proofs.Decoding.{Chain, no-entries}
 use Rattle.layout.proofs.Positions.{length-all-append, chain-mid}
 use Rattle.opening.specs.Calls.{Call, call, booked, limits}
 use Rattle.layout.specs.Standing.{standing}
@@ -29,7 +29,8 @@ use Rattle.opening.proofs.Opening.{open-tape, open-book}
 use Rattle.book.proofs.Delivering.{deliver-copy}
 use Rattle.redraws.proofs.Redrawing.{redraw-agrees}
 use Rattle.demands.specs.Demand3 as stated
-use Rattle.demands.specs.Demand3.{Operation, Stood, stood, afterDelivering, afterStriking, State, state, next, run, Called, Runs, OperationsFit, InSerialOrder, Redelivers, Kept, Demand3}
+use Rattle.demands.specs.Demand3.{Operation, Stood, stood, afterDelivering, afterStriking, State, state, Called, Runs, OperationsFit, InSerialOrder, Redelivers, Kept, Demand3}
+use Rattle.demands.specs.Lines.{next, run}
 use Rattle.demands.proofs.Laws.{by-given}
 use Rattle.demands.proofs.Standing.{AllDrawn, drawn-mid, Stands, stands-none, stands-left, found, deliver-fresh, deliver-by, strike-by}
 
@@ -201,24 +202,21 @@ module _ (ws : List ℕ) (n : ℕ) (within : length ws ≤ mostWords) (small : n
       copied-at es (take k es) (drop (suc k) es) (getD es k blank) x (split-at es k blank below) is st
 
   -- an all-zero book holds no entry
-  no-bytes : encode n [] ≡ replicate n 0
-  unfolding encode entriesBytes lengthAll
-  no-bytes = zeros-equal (n - 0) n (omega arith)
-
   pub empty-held : Held ws n (state (replicate n 0) [])
-  empty-held = record { entries = []; holds = no-bytes; history-is = refl; stands = stands-none ws n }
+  empty-held = record { entries = []; holds = no-entries n; history-is = refl; stands = stands-none ws n }
 
   -- so what is held is kept
   kept : (st : State) → Held ws n st → Kept ws n st
   kept st hd =
       record {
         in-order = rw (← hd .history-is) (in-serial-order (hd .entries) 1 0 (hd .stands .chain));
-        bytes = rw (← hd .history-is, ← hd .holds, ← no-bytes) (redelivered (hd .entries) [] (hd .stands));
+        bytes = rw (← hd .history-is, ← hd .holds, ← no-entries n) (redelivered (hd .entries) [] (hd .stands));
         copies = λ before after x q. rw (← hd .holds) (copied-booking (hd .entries) (hd .stands) before after x (hd .history-is ∙ q));
         clean = λ a b. rw (← hd .history-is, ← hd .holds, length-map (hd .entries) stoodOf) (clean-again (hd .entries) (hd .stands));
       }
 
-all-kept : (ws : List ℕ) (n : ℕ) (os : List Operation) → OperationsFit os → Kept ws n (run ws (state (replicate n 0) []) os)
+-- by the rules, so, any calls leave a book that is kept
+pub all-kept : (ws : List ℕ) (n : ℕ) (os : List Operation) → OperationsFit os → Kept ws n (run ws (state (replicate n 0) []) os)
 all-kept ws n os fit =
     elim (decLe (length ws) mostWords) [
       | yes a ↦ elim (decLe n mostBytes) [
@@ -246,4 +244,4 @@ one-run ws (o ∷ os) st st' c =
     one-run ws os (c .0) st' (c .1 .1) ∙ ap (λ (x : State). run ws x os) (one-step ws st (c .0) o (c .1 .0))
 
 pub demand-3 : Demand3
-demand-3 = record { answered = one-run; kept = all-kept }
+demand-3 ws n os st fit runs = rw (one-run ws os (state (replicate n 0) []) st runs) (all-kept ws n os fit)

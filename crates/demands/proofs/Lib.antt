@@ -6,3 +6,4 @@ pub mod Standing
 pub mod Demand3
 pub mod Dead
 pub mod Lines
+pub mod Orders

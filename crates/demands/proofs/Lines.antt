@@ -1,5 +1,5 @@
 -- The pull service keeps demand 3, proved: its lines are calls of that demand, and a request that is read fits 64 bits. Assumes nothing.
-use mathlib.Core.Path.{_≡_, refl}
+use mathlib.Core.Path.{_≡_, refl, sym, _∙_}
 use mathlib.Core.Bool.{false, _&&_}
 use mathlib.Core.List.{List, [], _∷_, _++_}
 use Prim.Native.Nat.{ℕ, suc, _-_, _^_, _<_}
@@ -23,9 +23,9 @@ use Rattle.request_line.specs.declared.Line.the-variants.{Deliver, Strike, Redr
 use Rattle.request_line.specs.Words.{word, words, sameText}
 use Rattle.request_line.specs.Forms.{deliverText, strikeText, redrawText, hypergeometricText, poissonText, geometricText, standardText, isForm, onNumber, numberAt, trayAsked, poissonAsked, geometricAsked, requestAsked, onAsked, deliverLine, strikeLine, redrawLine, callLine, isPassed, readLine}
 use Rattle.service.specs.Service.{answered, serve}
-use Rattle.demands.specs.Demand3.{Operation, delivering, striking, State, state, next, run, OperationsFit}
-use Rattle.demands.specs.Lines.{operationOf, operationsOf, servedAll, LinesKept}
-use Rattle.demands.proofs.Demand3.{demand-3}
+use Rattle.demands.specs.Demand3.{Operation, delivering, striking, State, state, OperationsFit}
+use Rattle.demands.specs.Lines.{operationOf, operationsOf, next, run, ServedAll, LinesKept}
+use Rattle.demands.proofs.Demand3.{all-kept}
 
 -- ---- the book that the lines leave is the one that their calls leave
 
@@ -43,12 +43,13 @@ answered-run ws st k Passed = refl
 answered-run ws st k Unread = refl
 
 -- and so for lines one after another
-served-run : (ws : List ℕ) (ls : List (List ℕ)) (st : State) (k : ℕ) → servedAll ws (st .book) k ls ≡ run ws st (operationsOf ls) .book
-unfolding serve servedAll operationsOf
-served-run ws [] st k = refl
-served-run ws (l ∷ ls) st k =
+served-run : (ws : List ℕ) (ls : List (List ℕ)) (st : State) (k : ℕ) (c : List ℕ) → ServedAll ws (st .book) k ls c → c ≡ run ws st (operationsOf ls) .book
+unfolding serve operationsOf
+served-run ws [] st k c s = sym s
+served-run ws (l ∷ ls) st k c s =
     let os : List Operation = operationOf (readLine l) in
-    rw (answered-run ws st k (readLine l), run-append ws os (operationsOf ls) st) (served-run ws ls (run ws st os) (suc k))
+    let left : s .0 ≡ run ws st os .book = s .1 .0 .allowed .leaves ∙ answered-run ws st k (readLine l) in
+    rw (run-append ws os (operationsOf ls) st) (served-run ws ls (run ws st os) (suc k) c (rw left at (s .1 .1)))
 
 -- ---- a number that is read is below 2^64
 
@@ -128,5 +129,5 @@ operations-fit (l ∷ ls) = append-fits (operationOf (readLine l)) (operationsOf
 
 -- demand 3 for these calls, at the book that the service leaves
 pub lines-kept : LinesKept
-lines-kept ws n k ls =
-    rw (served-run ws ls (state (replicate n 0) []) k) (demand-3 .kept ws n (operationsOf ls) (operations-fit ls))
+lines-kept ws n k ls c s =
+    rw (served-run ws ls (state (replicate n 0) []) k c s) (all-kept ws n (operationsOf ls) (operations-fit ls))

@@ -11,7 +11,7 @@ use lib.Seq.{split-at, length-take-le}
 use borrow.Author.Tests.{lt-ltb, le-ltb, eqb-true, eqb-false, ltb-false, not-false}
 use Rattle.words.specs.Words.{mostWords}
 use Rattle.words.specs.Outcome.{Outcome, drawn, refused}
-use Rattle.words.specs.Paper as words
+use Rattle.words.specs.Inner as words
 use Rattle.words.specs.Refusals.{Condition, _on_, First, NoneHolds}
 use Rattle.words.specs.Draw.{shorts, endings}
 use Rattle.words.proofs.Tape.{limit-within}

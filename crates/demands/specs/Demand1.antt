@@ -1,21 +1,22 @@
--- Demand 1: a refusal carries count 0 and 0 words used and changes no byte lent. (That every entry point takes any parameters, words and
--- bytes and ends is what the checker shows of every function, and none of the entry points has a `requires`.) Assumes nothing.
+-- Demand 1: a refusal carries count 0 and 0 words used and changes no byte lent. Each part speaks of whatever its call's contract allows.
+-- (That a call ends is what the checker shows of every function; that every entry point takes any parameters, words and bytes is shown by
+-- the crate heads, which calls each of them with nothing to show first.) Assumes nothing.
 use Prim.Native.Nat.{ℕ}
 use mathlib.Core.List.{List}
 use mathlib.Core.Path.{_≡_}
 use Rattle.words.specs.declared.Answer.{Answer}
 use Rattle.words.specs.Outcome.{Outcome, drawn, refused, countOf, usedOf}
+use Rattle.words.specs.Draw.{Drawing, DrawAllows}
 use Rattle.words.specs.Paper.{paper}
 use Rattle.hypergeometric.specs.declared.SetUp.{SetUp}
-use Rattle.hypergeometric.specs.SetUp.{setUpPaper}
+use Rattle.hypergeometric.specs.SetUp.{setUpPaper, SetUpAllows}
 use Rattle.kinds.specs.declared.Request.{Request}
 use Rattle.book.specs.declared.Delivered.{Delivered}
 use Rattle.book.specs.declared.Struck.{Struck}
 use Rattle.redraws.specs.declared.Redrawn.{Redrawn}
-use Rattle.book.specs.Deliver.{Booking, fresh, copy, delivered}
-use Rattle.book.specs.Strike.{struck}
-use Rattle.redraws.specs.Redraw.{redrawn}
-use Rattle.demands.specs.Allowed.{DeliverAllows, StrikeAllows, RedrawAllows}
+use Rattle.book.specs.Deliver.{Booking, fresh, copy, delivered, DeliverAllows}
+use Rattle.book.specs.Strike.{struck, StrikeAllows}
+use Rattle.redraws.specs.Redraw.{redrawn, RedrawAllows}
 
 -- the count that an accepted delivery is told
 abbrev pub told : Booking → ℕ
@@ -26,13 +27,15 @@ abbrev pub countTold : Outcome Booking → ℕ
 countTold (drawn x u) = told x
 countTold (refused n) = 0
 
--- of a draw, at any of its entry points: their contracts all read `paper answer ≡ ..`, and a tape can't be written
+-- of a draw, at any of its entry points; a tape can't be written
 abbrev pub DrawRefuses : Type 0
-DrawRefuses = (a : Answer) (n : ℕ) → paper a ≡ refused n → (countOf (paper a) ≡ 0) × (usedOf (paper a) ≡ 0)
+DrawRefuses =
+    (d : Drawing ℕ) (ws : List ℕ) (a : Answer) → DrawAllows d ws a
+    → (n : ℕ) → paper a ≡ refused n → (countOf (paper a) ≡ 0) × (usedOf (paper a) ≡ 0)
 
 -- of a tray's set-up, which counts nothing
 abbrev pub SetUpRefuses : Type 0
-SetUpRefuses = (a : SetUp) (n : ℕ) → setUpPaper a ≡ refused n → usedOf (setUpPaper a) ≡ 0
+SetUpRefuses = (N K m : ℕ) (a : SetUp) → SetUpAllows N K m a → (n : ℕ) → setUpPaper a ≡ refused n → usedOf (setUpPaper a) ≡ 0
 
 -- of a delivery: the bytes at exit are those at entry
 abbrev pub DeliverRefuses : Type 0

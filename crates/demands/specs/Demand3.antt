@@ -13,10 +13,9 @@ use Rattle.book.specs.declared.Delivered.{Delivered}
 use Rattle.book.specs.declared.Struck.{Struck}
 use Rattle.opening.specs.Calls.{call}
 use Rattle.layout.specs.Book.{mostBytes}
-use Rattle.book.specs.Deliver.{Booking, fresh, copy, delivered, deliver}
-use Rattle.book.specs.Strike.{struck, strike}
+use Rattle.book.specs.Deliver.{Booking, fresh, copy, delivered, deliver, DeliverAllows}
+use Rattle.book.specs.Strike.{struck, StrikeAllows}
 use Rattle.redraws.specs.Redraw.{redraw}
-use Rattle.demands.specs.Allowed.{DeliverAllows, StrikeAllows}
 
 -- what a caller may ask that can write the book
 pub data Operation : Type 0 where
@@ -51,30 +50,19 @@ pub record State : Type 0 where
 abbrev pub state : List ℕ → List Stood → State
 state b h = record { book = b; history = h }
 
--- one call, by the rules
-abbrev pub next : List ℕ → State → Operation → State
-next ws st (delivering s r) =
-    state (deliver ws (st .book) s r .book) (afterDelivering s r (deliver ws (st .book) s r .outcome) (st .history))
-next ws st (striking j) =
-    state (strike ws (st .book) j .book) (afterStriking j (strike ws (st .book) j .outcome) (st .history))
-
--- calls one after another
-abbrev pub run : List ℕ → State → List Operation → State
-run ws st [] = st
-run ws st (o ∷ os) = run ws (next ws st o) os
-
--- the same by the answers given: any answer and any book at exit that the call's contract allows
+-- one call: any answer and any book at exit that its contract allows, with the history told by that answer
 abbrev pub Called : List ℕ → State → Operation → State → Type 0
 Called ws st (delivering s r) st' =
     (a : Delivered) × (DeliverAllows ws (st .book) s r a (st' .book) × (st' .history ≡ afterDelivering s r (delivered a) (st .history)))
 Called ws st (striking j) st' =
     (a : Struck) × (StrikeAllows ws (st .book) j a (st' .book) × (st' .history ≡ afterStriking j (struck a) (st .history)))
 
+-- calls one after another, over one tape
 abbrev pub Runs : List ℕ → State → List Operation → State → Type 0
 Runs ws st [] st' = st ≡ st'
 Runs ws st (o ∷ os) st' = (mid : State) × (Called ws st o mid × Runs ws mid os st')
 
--- parameters of 64 bits, as a call's are
+-- each request has parameters of 64 bits, as a call's has; serials and j are any numbers
 abbrev pub OperationsFit : List Operation → Type 0
 OperationsFit [] = Unit
 OperationsFit (delivering s r ∷ os) = RequestFits r × OperationsFit os
@@ -103,8 +91,8 @@ pub record Kept (ws : List ℕ) (n : ℕ) (st : State) : Type 0 where
   -- the book redraws clean over its tape, where a call may look at them at all
   pub clean : length ws ≤ mostWords → n ≤ mostBytes → redraw ws (st .book) ≡ record { outcome = drawn (length (st .history)) 0; named = none }
 
-pub record Demand3 : Type 0 where
-  -- whatever the calls answer and write, as their contracts allow, book and history are those that the rules give
-  pub answered : (ws : List ℕ) (os : List Operation) (st st' : State) → Runs ws st os st' → st' ≡ run ws st os
-  -- for every tape, size and list of operations, from an all-zero book
-  pub kept : (ws : List ℕ) (n : ℕ) (os : List Operation) → OperationsFit os → Kept ws n (run ws (state (replicate n 0) []) os)
+-- For every tape, every size and every list of operations whose requests are of 64 bits: from an all-zero book, whatever the calls answer and
+-- write, as their contracts allow, the book is kept.
+abbrev pub Demand3 : Type 0
+Demand3 =
+    (ws : List ℕ) (n : ℕ) (os : List Operation) (st : State) → OperationsFit os → Runs ws (state (replicate n 0) []) os st → Kept ws n st

@@ -1,5 +1,5 @@
-pub mod Allowed
 pub mod Demand1
 pub mod Demand2
 pub mod Demand3
 pub mod Lines
+pub mod Orders

@@ -1,13 +1,17 @@
--- The pull service keeps demand 3: whatever lines it is fed over one tape, from an all-zero book, the book is kept as demand 3 says, with the
--- history of the calls that its lines ask for. Assumes nothing.
+-- The pull service keeps demand 3: whatever lines it is fed over one tape, from an all-zero book, and whatever it does with each, as the contract
+-- of `serve` allows, the book is kept as demand 3 says, with the history of the calls that its lines ask for. Assumes nothing.
 use Prim.Native.Nat.{ℕ, suc}
+use mathlib.Core.Bool.{Bool}
 use mathlib.Core.List.{List, [], _∷_, _++_}
+use mathlib.Core.Path.{_≡_}
 use lib.ListN.{replicate}
 use Rattle.request_line.specs.declared.Line.{Line}
 use Rattle.request_line.specs.declared.Line.the-variants.{Deliver, Strike, Redraw, Passed, Unread}
 use Rattle.request_line.specs.Forms.{readLine}
-use Rattle.service.specs.Service.{serve}
-use Rattle.demands.specs.Demand3.{Operation, delivering, striking, state, run, Kept}
+use Rattle.book.specs.Deliver.{deliver}
+use Rattle.book.specs.Strike.{strike}
+use Rattle.service.specs.Service.{ServeAllows}
+use Rattle.demands.specs.Demand3.{Operation, delivering, striking, afterDelivering, afterStriking, State, state, Kept}
 
 -- the call that can write the book, if the line asks for one
 abbrev pub operationOf : Line → List Operation
@@ -21,13 +25,32 @@ unfoldable pub operationsOf : List (List ℕ) → List Operation
 operationsOf [] = []
 operationsOf (l ∷ ls) = operationOf (readLine l) ++ operationsOf ls
 
--- the book after lines that are served one after another, the first of them numbered k
-unfoldable pub servedAll : List ℕ → List ℕ → ℕ → List (List ℕ) → List ℕ
-servedAll ws b k [] = b
-servedAll ws b k (l ∷ ls) = servedAll ws (serve ws b k l .book) (suc k) ls
+-- one call, by the rules, and calls one after another
+abbrev pub next : List ℕ → State → Operation → State
+next ws st (delivering s r) =
+    state (deliver ws (st .book) s r .book) (afterDelivering s r (deliver ws (st .book) s r .outcome) (st .history))
+next ws st (striking j) =
+    state (strike ws (st .book) j .book) (afterStriking j (strike ws (st .book) j .outcome) (st .history))
+
+abbrev pub run : List ℕ → State → List Operation → State
+run ws st [] = st
+run ws st (o ∷ os) = run ws (next ws st o) os
+
+-- the line l, of number k, is served over the book b, into some buffer, and leaves the book c
+pub record Served (ws b : List ℕ) (k : ℕ) (l c : List ℕ) : Type 0 where
+  pub out : List ℕ
+  pub length : ℕ
+  pub changed : Bool
+  pub after : List ℕ
+  pub allowed : ServeAllows ws b k l out length changed c after
+
+-- lines that are served one after another, the first of them numbered k, leave the book c
+abbrev pub ServedAll : List ℕ → List ℕ → ℕ → List (List ℕ) → List ℕ → Type 0
+ServedAll ws b k [] c = b ≡ c
+ServedAll ws b k (l ∷ ls) c = (d : List ℕ) × (Served ws b k l d × ServedAll ws d (suc k) ls c)
 
 -- for every tape, size and list of lines
 abbrev pub LinesKept : Type 0
 LinesKept =
-    (ws : List ℕ) (n k : ℕ) (ls : List (List ℕ))
-    → Kept ws n (state (servedAll ws (replicate n 0) k ls) (run ws (state (replicate n 0) []) (operationsOf ls) .history))
+    (ws : List ℕ) (n k : ℕ) (ls : List (List ℕ)) (c : List ℕ) → ServedAll ws (replicate n 0) k ls c
+    → Kept ws n (state c (run ws (state (replicate n 0) []) (operationsOf ls) .history))

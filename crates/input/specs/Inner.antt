@@ -1,4 +1,4 @@
--- What is said of reading: the bytes that it gave are bytes of the buffer. Assumes nothing.
+-- What is said of reading: the bytes that it gave are bytes of the buffer. No entry point's contract and no demand rests on it. Assumes nothing.
 use Prim.Native.Nat.{ℕ, _≤_}
 use Rattle.input.specs.declared.Got.{Got}
 use Rattle.input.specs.declared.Got.the-variants.{Bytes, Failed}

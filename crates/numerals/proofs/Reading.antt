@@ -17,7 +17,8 @@ use Rattle.bytes.specs.Bytes.{slice, indexOf}
 use Rattle.numerals.specs.declared.Number.the-variants.{Is, Unread}
 use Rattle.numerals.specs.Split.{upTo, past, has}
 use Rattle.numerals.specs.Digits.{digitOf, areDigits, spells, continued, isEmpty, number}
-use Rattle.numerals.specs.Decimal.{point, isWhole, isDecimal, wholeOf, placesOf, isShort, nearestBits, placed, decimalBits, isHexadecimal, floatBits}
+use Rattle.numerals.specs.Decimal.{point, isWhole, isDecimal, wholeOf, placesOf, isShort, nearestBits, decimalBits, isHexadecimal, floatBits}
+use Rattle.numerals.specs.Inner.{placed}
 
 -- ---- the number that digits spell
 

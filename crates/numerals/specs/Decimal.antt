@@ -38,17 +38,13 @@ isShort l = leb (placesOf l) 15 && ltb (wholeOf l) (10 ^ 15)
 unfoldable pub nearestBits : ℕ → ℕ → ℕ
 nearestBits a b = toBits binary64 (round binary64 false a b)
 
--- a decimal whose digits before the point spell w, by those after it
-unfoldable pub placed : ℕ → List ℕ → Number
-placed w l = cond (isWhole l && (leb (length l) 15 && ltb (spells 10 w l) (10 ^ 15))) (Is (nearestBits (spells 10 w l) (10 ^ length l))) Unread
-
 -- the digits as a whole number, divided by a power of ten
 unfoldable pub decimalBits : List ℕ → Number
 decimalBits l = cond (isDecimal l && isShort l) (Is (nearestBits (wholeOf l) (10 ^ placesOf l))) Unread
 
 -- `0x`, and 16 bytes
 unfoldable pub isHexadecimal : List ℕ → Bool
-isHexadecimal l = eqb (length l) 18 && (eqb (getD l 0 0) 48 && eqb (getD l 1 0) 120)
+isHexadecimal l = eqb (length l) 18 && (eqb (getD l 0 0) 48 && eqb (getD l 1 0) 120)  -- "0x"
 
 -- 16 hexadecimal digits are the bits themselves
 unfoldable pub floatBits : List ℕ → Number

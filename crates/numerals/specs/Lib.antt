@@ -1,3 +1,4 @@
 pub mod Split
 pub mod Digits
 pub mod Decimal
+pub mod Inner

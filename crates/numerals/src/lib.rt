@@ -4,7 +4,8 @@ ghost use mathlib.Core.Path.{_≡_};
 ghost use Prim.Native.Nat.{_^_, _≤_, _<_};
 ghost use Rattle.numerals.specs.Digits.{continued, digitOf};
 ghost use Rattle.numerals.specs.Digits.{number as Digits·number};
-ghost use Rattle.numerals.specs.Decimal.{decimalBits, floatBits, isHexadecimal, nearestBits, placed};
+ghost use Rattle.numerals.specs.Decimal.{decimalBits, floatBits, isHexadecimal, nearestBits};
+ghost use Rattle.numerals.specs.Inner.{placed};
 
 // What a text is read as: a number, or the bits of a float; or that it is neither.
 pub enum Number {

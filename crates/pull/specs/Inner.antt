@@ -1,4 +1,5 @@
--- What this program's own functions say of a number that they hand on: it counts elements of what was lent. Assumes nothing.
+-- What this program's own functions say of a number that they hand on: it counts elements of what was lent. No entry point's contract and no
+-- demand rests on it. Assumes nothing.
 use Prim.Native.Nat.{ℕ, _≤_, _<_}
 use Rattle.pull.specs.declared.tape.Loaded.{Loaded}
 use Rattle.pull.specs.declared.tape.Loaded.the-variants as loaded

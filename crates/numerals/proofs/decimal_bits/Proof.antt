@@ -14,7 +14,8 @@ use Rattle.bytes.specs.Bytes.{indexOf}
 use Rattle.numerals.specs.declared.Number.the-variants.{Is}
 use Rattle.numerals.specs.Split.{upTo, past, has}
 use Rattle.numerals.specs.Digits.{number}
-use Rattle.numerals.specs.Decimal.{point, placed}
+use Rattle.numerals.specs.Decimal.{point}
+use Rattle.numerals.specs.Inner.{placed}
 use Rattle.numerals.proofs.Reading.{number-within, slice-rest, find-ends, find-past, mostWhole, decimal-unread, decimal-whole, decimal-placed}
 use Rattle.numerals.proofs.decimal_bits.Statement.{statement}
 use Rattle.numerals.proofs.decimal_bits.Tie as tie
