@@ -181,8 +181,8 @@ static void standard_delivered(void) {
     same("the book is what it was before", kept, book, sizeof book);
 }
 
-static void parameters(void) {
-    const size_t n = MOST_BYTES;
+/* With room for an entry, and in a full book at the tape's end: parameters are refused before 15 and 10. */
+static void parameters(size_t n) {
     refused_and_kept("delivered K > N", banlothek_deliver_hypergeometric(tape, WORDS, book, n, 5, 10, 11, 12),
                      BANLOTHEK_PROBABILITY_TOO_LARGE);
     refused_and_kept("delivered n > N", banlothek_deliver_hypergeometric(tape, WORDS, book, n, 5, 10, 3, 11),
@@ -193,6 +193,8 @@ static void parameters(void) {
     refused_and_kept("delivered 3000s", banlothek_deliver_hypergeometric(tape, WORDS, book, n, 5, 1048576, 3000, 3000),
                      BANLOTHEK_POPULATION_TOO_LARGE);
     refused_and_kept("delivered T", banlothek_deliver_poisson(tape, WORDS, book, n, 5, ABOVE_ONE), BANLOTHEK_THRESHOLD_OUTSIDE);
+    refused_and_kept("delivered a p above 1", banlothek_deliver_geometric(tape, WORDS, book, n, 5, ABOVE_ONE),
+                     BANLOTHEK_INVALID_PROBABILITY);
     refused_and_kept("delivered p", banlothek_deliver_geometric(tape, WORDS, book, n, 5, P_2_32), BANLOTHEK_TOO_RARE);
 }
 
@@ -205,6 +207,23 @@ static void limits(const char *what, const uint64_t *words, size_t n, size_t byt
     refused_and_kept(what, banlothek_deliver_standard_geometric(words, n, book, bytes, 1), number);
     refused_and_kept(what, banlothek_strike(words, n, book, bytes, 0), number);
     refused_and_kept(what, banlothek_redraw(words, n, book, bytes), number);
+}
+
+/* Where two conditions hold at once or more, the earlier in the call's order is given. */
+static void two_at_once(void) {
+    refused_and_kept("15 with 10", banlothek_deliver_poisson(tape, WORDS, book, ROOM, 5, HALF), BANLOTHEK_BOOK_FULL);
+    refused_and_kept("14 with 8 and 15", banlothek_deliver_geometric(tape, WORDS, book, ROOM, 3, NAN_BITS), BANLOTHEK_SERIAL_REUSED);
+    refused_and_kept("13 with 8 and 15", banlothek_deliver_geometric(tape, WORDS, book, ROOM, 6, NAN_BITS), BANLOTHEK_SERIAL_AHEAD);
+    book[MOST_BYTES] = 1;
+    limits("1 with 11 and 12", long_tape, TOO_MANY_WORDS, MOST_BYTES + 1, BANLOTHEK_TAPE_TOO_LONG);
+    limits("11 with 12", tape, WORDS, MOST_BYTES + 1, BANLOTHEK_BOOK_TOO_LONG);
+    book[MOST_BYTES] = 0;
+    book[ROOM] = 1;
+    keep();
+    refused_and_kept("12 with 13, serial 0", banlothek_deliver_poisson(tape, WORDS, book, ROOM + 24, 0, HALF), BANLOTHEK_BOOK_DAMAGED);
+    refused_and_kept("12 with 13, serial 6", banlothek_deliver_geometric(tape, WORDS, book, ROOM + 24, 6, HALF), BANLOTHEK_BOOK_DAMAGED);
+    refused_and_kept("12 with 16", banlothek_strike(tape, WORDS, book, ROOM + 24, 5), BANLOTHEK_BOOK_DAMAGED);
+    book[ROOM] = 0;
 }
 
 static void redraw_and_strike(void) {
@@ -249,13 +268,16 @@ int main(void) {
     copies();
     ahead_and_full();
     standard_delivered();
-    parameters();
+    parameters(MOST_BYTES);
+    parameters(ROOM);
     limits("a tape of 1,048,577 words", long_tape, TOO_MANY_WORDS, ROOM, BANLOTHEK_TAPE_TOO_LONG);
     limits("a book of 65,537 bytes", tape, WORDS, MOST_BYTES + 1, BANLOTHEK_BOOK_TOO_LONG);
     limits("a tape shorter than its book", tape, WORDS - 1, ROOM, BANLOTHEK_BOOK_DAMAGED);
     book[ROOM] = 1;
     limits("a byte after the end", tape, WORDS, ROOM + 24, BANLOTHEK_BOOK_DAMAGED);
     book[ROOM] = 0;
+    keep();
+    two_at_once();
     redraw_and_strike();
     worked();
     printf("%d of %d expectations hold\n", expectations - failures, expectations);

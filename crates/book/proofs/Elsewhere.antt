@@ -14,14 +14,14 @@ use Rattle.bytes_le.proofs.Elsewhere.{ChangedWithin, unchanged-within, stored-w
 use Rattle.kinds.specs.declared.Request.{Request}
 use Rattle.kinds.specs.Kinds.{lengthOf}
 use Rattle.entry.specs.declared.Entry.{Entry}
-use Rattle.entry.specs.Entry.{booking, entryBytes}
+use Rattle.entry.specs.Entry.{entryBytes}
 use Rattle.entry.proofs.Entries.{length-entry}
 use Rattle.layout.specs.Book.{lengthAll}
 use Rattle.layout.specs.Standing.{standing}
 use Rattle.layout.proofs.Positions.{length-all-append}
 use Rattle.opening.specs.Calls.{booked, limits}
 use Rattle.opening.proofs.Opening.{open-room}
-use Rattle.book.specs.Deliver.{Booking, fresh, copy, afterDelivery, deliverTo, deliver}
+use Rattle.book.specs.Deliver.{Booking, fresh, copy, bookingAt, afterDelivery, deliverTo, deliver}
 use Rattle.book.specs.Strike.{leftBy, afterStrike, strikeRefusals, strikeIn, strike}
 
 -- ---- a delivery
@@ -29,7 +29,7 @@ use Rattle.book.specs.Strike.{leftBy, afterStrike, strikeRefusals, strik
 after-elsewhere : (o : Outcome Booking) (b : List ℕ) (es : List Entry) (r : Request)
     → ChangedWithin (lengthAll es) (lengthAll es + lengthOf r) b (afterDelivery o b (standing es) r)
 after-elsewhere (drawn (fresh c) u) b es r =
-    let e : Entry = booking r (length es + 1) (standing es .place) u c in
+    let e : Entry = bookingAt (standing es) r c u in
     stored-within b (lengthAll es) (entryBytes e) (lengthAll es + lengthOf r) (ap (λ (n : ℕ). lengthAll es + n) (sym (length-entry e)))
 after-elsewhere (drawn (copy c) u) b es r = unchanged-within (lengthAll es) (lengthAll es + lengthOf r) b
 after-elsewhere (refused n) b es r = unchanged-within (lengthAll es) (lengthAll es + lengthOf r) b
@@ -59,20 +59,20 @@ module _ (ws b : List ℕ) (j : ℕ) (by : Bytes b) where
       let h : NoneHolds (limits ws b) = none-before (limits ws b) (16 on ltb (length es) j ∷ []) (drawn-exactly (strikeRefusals ws b es j) (drawn (length es - j) 0) m u .0 e .0) in
       open-room ws b by h .0
 
-  after-struck : (o : Outcome ℕ) → ((m u : ℕ) → o ≡ drawn m u → lengthAll es ≤ length b)
-      → ChangedWithin (lengthAll (leftBy j es)) (lengthAll es) b (afterStrike o b es j)
-  after-struck (drawn m u) room = wiped-within (lengthAll (leftBy j es)) (lengthAll es) b fewer (room m u refl)
-  after-struck (refused n) room = unchanged-within (lengthAll (leftBy j es)) (lengthAll es) b
-
-  -- nothing else changes: the last j entries' bytes are those from the end of the ones left to the end of all
-  pub strike-elsewhere : ChangedWithin (lengthAll (leftBy j (booked ws b))) (lengthAll (booked ws b)) b (strike ws b j .book)
-  unfolding strike strikeIn
-  strike-elsewhere = after-struck (strike ws b j .outcome) accepted-room
-
-  -- and those are zero bytes
+  -- the last j entries' bytes are those from the end of the ones left to the end of all: they become zero
   pub strike-zeros : (m u : ℕ) → strike ws b j .outcome ≡ drawn m u → (k : ℕ) → lengthAll (leftBy j (booked ws b)) ≤ k → k < lengthAll (booked ws b)
       → getD (strike ws b j .book) k 0 ≡ 0
   unfolding strike strikeIn
   strike-zeros m u e k low high =
       ap (λ (o : Outcome ℕ). getD (afterStrike o b es j) k 0) e
       ∙ wiped-zero (lengthAll (leftBy j es)) (lengthAll es) b fewer (accepted-room m u e) k low high
+
+  after-struck : (o : Outcome ℕ) → ((m u : ℕ) → o ≡ drawn m u → lengthAll es ≤ length b)
+      → ChangedWithin (lengthAll (leftBy j es)) (lengthAll es) b (afterStrike o b es j)
+  after-struck (drawn m u) room = wiped-within (lengthAll (leftBy j es)) (lengthAll es) b fewer (room m u refl)
+  after-struck (refused n) room = unchanged-within (lengthAll (leftBy j es)) (lengthAll es) b
+
+  -- and nothing else changes
+  pub strike-elsewhere : ChangedWithin (lengthAll (leftBy j (booked ws b))) (lengthAll (booked ws b)) b (strike ws b j .book)
+  unfolding strike strikeIn
+  strike-elsewhere = after-struck (strike ws b j .outcome) accepted-room

@@ -76,9 +76,13 @@ copied e = drawn (copy (e .count)) (e .used)
 unfoldable pub delivery : List ℕ → List Entry → ℕ → Request → Outcome Booking
 delivery ws es s r = cond (isNext (length es) s) (freshly (readingOf r (drop (standing es .place) ws))) (copied (bookedAt es s))
 
+-- the entry that books it: the serial that is next, the tape's place before the draw, and what was drawn
+abbrev pub bookingAt : Standing → Request → ℕ → ℕ → Entry
+bookingAt st r c u = booking r (st .entries + 1) (st .place) u c
+
 -- a fresh delivery that is accepted is appended, and no byte outside its entry changes; nothing else changes a byte
 abbrev pub afterDelivery : Outcome Booking → List ℕ → Standing → Request → List ℕ
-afterDelivery (drawn (fresh c) u) b st r = sets b (st .end) (entryBytes (booking r (st .entries + 1) (st .place) u c))
+afterDelivery (drawn (fresh c) u) b st r = sets b (st .end) (entryBytes (bookingAt st r c u))
 afterDelivery (drawn (copy c) u) b st r = b
 afterDelivery (refused n) b st r = b
 

@@ -24,10 +24,9 @@ ghost use Rattle.words.specs.Inner.{isShort};
 ghost use Rattle.words.specs.Paper.{numberOf};
 ghost use Rattle.words.specs.Inner.{drew};
 ghost use Rattle.kinds.specs.Kinds.{sameRequest};
-ghost use Rattle.entry.specs.Entry.{booking};
 ghost use Rattle.opening.specs.Calls.{call};
 ghost use Rattle.opening.specs.Inner.{IsOpen};
-ghost use Rattle.book.specs.Deliver.{DeliverAllows, copied, delivered};
+ghost use Rattle.book.specs.Deliver.{DeliverAllows, bookingAt, copied, delivered};
 ghost use Rattle.book.specs.Inner.{freshDelivery};
 ghost use Rattle.book.specs.Strike.{StrikeAllows};
 
@@ -49,7 +48,7 @@ pub enum Struck {
 // The entry that books a draw after those that stand.
 fn entry_of(standing: Standing, request: Request, draw: Draw) -> Entry
     requires { ⌜ standing .entries < 2 ^ 32 ⌝ }
-    ensures { λ r. ⌜ r ≡ booking request (standing .entries + 1) (standing .place) (draw .used) (draw .count) ⌝ }
+    ensures { λ r. ⌜ r ≡ bookingAt standing request (draw .count) (draw .used) ⌝ }
 {
     Entry {
         request,

@@ -20,7 +20,7 @@ use Rattle.draws.specs.Request.{parameterRefusals, readingOf}
 use Rattle.draws.proofs.Laws.{request-ends}
 use Rattle.draws.proofs.Demand2 as draws
 use Rattle.hypergeometric.specs.declared.SetUp.{SetUp}
-use Rattle.hypergeometric.specs.SetUp.{setUp, trayRefusals, settled, setUpPaper, SetUpAllows}
+use Rattle.hypergeometric.specs.SetUp.{setUp, trayRefusals, settled, SetUpAllows}
 use Rattle.hypergeometric.proofs.Settling.{one-set-up}
 use Rattle.entry.specs.declared.Entry.{Entry}
 use Rattle.layout.proofs.Decoding.{by-test}

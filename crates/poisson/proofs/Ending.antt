@@ -1,23 +1,22 @@
 -- Words can follow any tape with which the Poisson draw ends: the fraction of the word 0 brings any product down. Assumes nothing.
-use mathlib.Core.Path.{_≡_, refl, sym, ap, _∙_, subst}
-use mathlib.Core.Bool.{Bool, true, false, _&&_, not}
-use mathlib.Core.List.{List, [], _∷_}
-use Prim.Native.Nat.{ℕ, _+_, _*_, _^_, _≤_}
+use mathlib.Core.Path.{_≡_, refl, ap, _∙_}
+use mathlib.Core.Bool.{Bool, true, false}
+use mathlib.Core.List.{[], _∷_}
+use Prim.Native.Nat.{_+_, _*_, _^_}
 use native.Mathlib.Nat.{zero-mul, mul-zero}
 use native.Mathlib.Omega.{arith}
 use lib.Dec.{T}
-use lib.IntN.{ℤ, pos}
+use lib.IntN.{pos}
 use lib.Pow.{pow-pos}
-use lib.Ieee.{Float, nan, inf, fin, binary64, up, down, unlike, round, mul, lt, le}
-use lib.Ieee.Bits.{is-true}
-use lib.Ieee.Fits.{down-pos, and-l}
+use lib.Ieee.{Float, nan, inf, fin, binary64, up, down, unlike, round, mul, lt}
+use lib.Ieee.Fits.{down-pos}
 use lib.Ieee.Positive.{above, above-of-le}
 use lib.Ieee.Scale.{round-same}
-use borrow.Author.Tests.{le-ltb, not-false}
+use borrow.Author.Tests.{le-ltb}
 use Rattle.words.specs.Words.{ratio, fractionOf}
-use Rattle.words.specs.Rule.{done, Rule}
 use Rattle.words.proofs.PastEnd.{Closes, closes-done}
-use Rattle.poisson.specs.Poisson.{Product, none, product, whileAbove, knuthRule, inRange}
+use Rattle.poisson.specs.Poisson.{Product, none, product, knuthRule, inRange}
+use Rattle.poisson.proofs.Range.{range-low}
 
 -- a zero of either sign, and what is no number, are not above a threshold of the range
 abbrev zero : Bool → Float
@@ -49,10 +48,8 @@ times-zero x (fin s m e) a =
 
 module _ (x : Float) (inside : inRange x ≡ true) where
   is-above : T (above x)
-  unfolding inRange round
-  is-above =
-      above-of-le (ratio 1 (2 ^ 18)) x tt
-      (and-l (le (ratio 1 (2 ^ 18)) x) (le x (ratio 1 1)) (subst (λ (b : Bool). T b) (sym inside) tt))
+  unfolding round
+  is-above = above-of-le (ratio 1 (2 ^ 18)) x tt (range-low x inside)
 
   -- so the word 0 ends the draw in any state
   pub knuth-closes : (s : Product) → Closes (knuthRule x) s (0 ∷ [])

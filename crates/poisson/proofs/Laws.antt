@@ -1,22 +1,21 @@
 -- Laws of the Poisson draw: what 01 says of module 2 beside the rule itself. Assumes nothing.
 use mathlib.Core.Path.{_≡_, refl, sym, ap, ap₂, _∙_}
-use mathlib.Core.Bool.{true, false, _&&_}
+use mathlib.Core.Bool.{true, false}
 use mathlib.Core.List.{List, [], _∷_}
 use mathlib.Core.Logic.{_↔_}
-use Prim.Native.Nat.{ℕ, zero, suc, _+_, _^_, _≤_, _<_}
+use Prim.Native.Nat.{ℕ, zero, suc, _+_, _≤_, _<_}
 use native.Mathlib.Numerals.{add-one}
 use native.Mathlib.Omega.{arith}
 use borrow.Author.Count.{below-none, below-more}
 use borrow.Author.Tests.{not-false}
 use lib.ListN.{length, take, getD}
-use lib.Ieee.{Float, nan, binary64, round, mul, lt, le, ofBits}
-use Rattle.words.specs.Words.{mostWords, ratio, fractionOf}
+use lib.Ieee.{Float, binary64, mul, lt}
+use Rattle.words.specs.Words.{mostWords, fractionOf}
 use Rattle.words.specs.Outcome.{drawn, refused}
 use Rattle.words.specs.Rule.{done, more}
 use Rattle.words.specs.Refusals.{First}
 use Rattle.words.specs.Draw.{conditions, draw}
 use Rattle.words.specs.Inner.{isOn}
-use Rattle.words.proofs.Patterns.{bits-between, bits-under, bits-over}
 use Rattle.words.proofs.Reading.{reading-used, reading-ends}
 use Rattle.words.proofs.Keeping.{After, after-cond, reading-keeps}
 use Rattle.words.proofs.Locality.{reading-local}
@@ -25,40 +24,6 @@ use Rattle.words.proofs.PastEnd.{reading-can-end}
 use Rattle.words.proofs.Lawful.{Lawful, lawful-exactly, lawful-local}
 use Rattle.poisson.specs.Poisson.{Product, none, product, whileAbove, knuthRule, inRange, poisson}
 use Rattle.poisson.proofs.Ending.{knuth-closes}
-
--- a NaN is outside the range; both its ends are inside, and the next floats past them are not
-pub nan-outside : inRange nan ≡ false
-unfolding inRange le round
-nan-outside = refl
-
-pub range-ends : (inRange (ratio 1 (2 ^ 18)) ≡ true) × (inRange (ratio 1 1) ≡ true)
-unfolding inRange le round
-range-ends = (refl, refl)
-
-pub range-past : (inRange (ofBits binary64 0x3ecf_ffff_ffff_ffff) ≡ false) × (inRange (ofBits binary64 0x3ff0_0000_0000_0001) ≡ false)
-unfolding inRange le round ofBits
-range-past = (refl, refl)
-
--- of T by its bits: those of 2^-18 and of 1, and the bits between them are the range
-abbrev lowest : ℕ
-lowest = 0x3ed0_0000_0000_0000
-
-abbrev highest : ℕ
-highest = 0x3ff0_0000_0000_0000
-
-range-is : (x : Float) → inRange x ≡ (le (ofBits binary64 lowest) x && le x (ofBits binary64 highest))
-unfolding inRange ofBits round
-range-is x = refl
-
-module _ (bits : ℕ) where
-  pub bits-inside : lowest ≤ bits → bits ≤ highest → inRange (ofBits binary64 bits) ≡ true
-  bits-inside h k = range-is (ofBits binary64 bits) ∙ bits-between lowest highest bits (omega arith) h k
-
-  pub bits-below : bits < lowest → inRange (ofBits binary64 bits) ≡ false
-  bits-below h = range-is (ofBits binary64 bits) ∙ bits-under lowest highest bits (omega arith) h
-
-  pub bits-above : highest < bits → bits < 2 ^ 64 → inRange (ofBits binary64 bits) ≡ false
-  bits-above h w = range-is (ofBits binary64 bits) ∙ bits-over lowest highest bits (omega arith) (omega arith) h w (λ e. omega arith)
 
 -- the product of the first n + 1 fractions, multiplied in order
 unfoldable pub productOf : List ℕ → ℕ → Float

@@ -1,3 +1,4 @@
+pub mod Range
 pub mod Ending
 pub mod Laws
 pub mod Twelve

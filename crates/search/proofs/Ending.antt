@@ -1,18 +1,18 @@
 -- Words can follow any tape with which the search ends: the largest fraction ends the first run, and m = 0 is taken. Assumes nothing.
 use mathlib.Core.Path.{_≡_, refl, ap}
-use mathlib.Core.Bool.{Bool, true, false, cond}
+use mathlib.Core.Bool.{Bool, true, false}
 use mathlib.Core.List.{List, [], _∷_}
-use Prim.Native.Nat.{ℕ, _+_, _-_, _*_, _^_, _≤_}
+use Prim.Native.Nat.{ℕ, _+_, _-_, _*_, _^_}
 use native.Mathlib.Nat.{zero-mod}
 use native.Mathlib.Omega.{arith}
 use lib.Ieee.{Float, nan, inf, fin, up, down, round, lt}
 use borrow.Author.Tests.{le-ltb, ltb-false}
 use Rattle.words.specs.Words.{fractionOf}
-use Rattle.words.specs.Rule.{Step, done, more, Rule}
+use Rattle.words.specs.Rule.{more, Rule}
 use Rattle.words.proofs.PastEnd.{Closes, closes-done, closes-more}
 use Rattle.search.specs.Power.{halved, powerOf, power}
 use Rattle.search.specs.Squares.{half}
-use Rattle.search.specs.Search.{Search, firstRun, remainderWord, acceptance, searching, searchRule}
+use Rattle.search.specs.Search.{Search, firstRun, remainderWord, acceptance, searchRule}
 
 -- the largest word, whose fraction is not below what is at most a half
 abbrev largest : ℕ

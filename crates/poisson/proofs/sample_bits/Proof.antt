@@ -10,7 +10,7 @@ use Rattle.words.proofs.Patterns.{float-of-bits}
 use Rattle.words.specs.Draw.{shorts, draw}
 use Rattle.words.proofs.Short.{ends-same}
 use Rattle.poisson.specs.Poisson.{knuthRule, poisson}
-use Rattle.poisson.proofs.Laws.{bits-inside, bits-below, bits-above}
+use Rattle.poisson.proofs.Range.{bits-inside, bits-below, bits-above}
 use Rattle.poisson.proofs.sample_bits.Statement.{statement}
 use Rattle.poisson.proofs.sample_bits.Tie as tie
 
