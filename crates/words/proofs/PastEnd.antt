@@ -11,7 +11,8 @@ use lib.ListN.{length, take}
 use lib.Seq.{take-append-le}
 use Rattle.words.specs.Outcome.{Outcome, drawn, refused}
 use Rattle.words.specs.Rule.{Step, done, more, Rule, read, reading, Local, CallsPast, CanEnd}
-use Rattle.words.proofs.Reading.{refused-not-drawn, read-done}
+use Rattle.words.proofs.Reading.{refused-not-drawn, read-done, reading-used}
+use Rattle.words.proofs.Locality.{reading-local}
 
 -- what is refused, by whatever number
 abbrev pub IsRefused : {A : Type 0} → Outcome A → Type 0
@@ -42,6 +43,10 @@ module _ {A : Type 0} (F : List ℕ → Outcome A) (local : Local F)
 
   pub short-exactly : IsRefused (F ws) ↔ CallsPast F ws
   short-exactly = (refused-calls, calls-refused)
+
+-- so of every rule: a reading is refused exactly when it calls for a word past the end
+pub reading-short : {S A : Type 0} (r : Rule S A) (ws : List ℕ) → IsRefused (reading r ws) ↔ CallsPast (reading r) ws
+reading-short r ws = short-exactly (reading r) (reading-local r) (reading-used r) ws
 
 -- ---- words with which it draws
 
