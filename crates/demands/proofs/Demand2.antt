@@ -12,7 +12,7 @@ use borrow.Author.Tests.{eq-eqb, eqb-true}
 use Rattle.words.specs.Outcome.{Outcome, drawn, refused}
 use Rattle.words.specs.Refusals.{Condition, _on_, given, First, NoneHolds}
 use Rattle.words.specs.Draw.{shorts, endsBy, endings}
-use Rattle.words.proofs.Exactly.{SomeFirst, exactly, drawn-exactly, some-after, none-given}
+use Rattle.words.proofs.Exactly.{SomeFirst, exactly, along, drawn-exactly, some-after, none-given}
 use Rattle.words.proofs.Reading.{refused-not-drawn}
 use Rattle.words.proofs.Short.{ended-first}
 use Rattle.kinds.specs.declared.Request.{Request}
@@ -70,10 +70,6 @@ delivery-covered ws b es s r n =
     by-test (λ (o : Outcome Booking). o ≡ refused n → SomeFirst (firsts ++ whenNext (isNext (length es) s) fs)) (isNext (length es) s)
     (λ t e. rw (t, next-asked fs) (some-after firsts fs (fresh-covered vs b (standing es .end) r n (freshly-refused (readingOf r vs) n e))))
     (λ t e. let z : _≡_ {A = ℕ} 0 1 = cc in absurd (omega arith))
-
--- what holds exactly of the rule's outcome holds exactly of an equal answer's reading
-along : {A B : Type 0} {o p x : Outcome A} → p ≡ o → (o ≡ x) ↔ B → (p ≡ x) ↔ B
-along e i = (λ h. i .0 (sym e ∙ h), λ b. e ∙ i .1 b)
 
 delivery-demanded : (ws b : List ℕ) (s : ℕ) (r : Request) (a : Delivered) (c : List ℕ) → DeliverAllows ws b s r a c → DeliverDemanded ws b s r a c
 unfolding deliver deliverTo

@@ -39,10 +39,10 @@ run ws st (o ∷ os) = run ws (next ws st o) os
 -- the line l, of number k, is served over the book b, into some buffer, and leaves the book c
 pub record Served (ws b : List ℕ) (k : ℕ) (l c : List ℕ) : Type 0 where
   pub out : List ℕ
-  pub length : ℕ
+  pub size : ℕ
   pub changed : Bool
   pub after : List ℕ
-  pub allowed : ServeAllows ws b k l out length changed c after
+  pub allowed : ServeAllows ws b k l out size changed c after
 
 -- lines that are served one after another, the first of them numbered k, leave the book c
 abbrev pub ServedAll : List ℕ → List ℕ → ℕ → List (List ℕ) → List ℕ → Type 0

@@ -1,13 +1,11 @@
 -- Demand 2 for draws, proved: of any drawing that keeps its kind's laws, and so of each. Assumes nothing.
-use mathlib.Core.Path.{_≡_, sym, _∙_}
+use mathlib.Core.Path.{sym, _∙_}
 use mathlib.Core.List.{List}
-use mathlib.Core.Logic.{_↔_}
 use Prim.Native.Nat.{ℕ}
 use Rattle.words.specs.declared.Answer.{Answer}
-use Rattle.words.specs.Outcome.{Outcome, drawn, refused}
-use Rattle.words.specs.Draw.{Drawing, draw, DrawAllows}
-use Rattle.words.specs.Paper.{paper}
+use Rattle.words.specs.Draw.{Drawing, DrawAllows}
 use Rattle.words.proofs.Drawing.{accepted-exactly}
+use Rattle.words.proofs.Exactly.{along}
 use Rattle.words.proofs.Lawful.{Lawful, lawful-exactly}
 use Rattle.words.proofs.OneAnswer.{one-answer}
 use Rattle.poisson.specs.Poisson.{poisson}
@@ -18,15 +16,11 @@ use Rattle.draws.specs.Request.{drawing, Supported}
 use Rattle.draws.specs.Demand2.{Demanded, Demand2}
 use Rattle.draws.proofs.Laws.{lawful}
 
--- what holds exactly of the rule's outcome holds exactly of an equal answer's reading
-along : {B : Type 0} (o p : Outcome ℕ) (x : Outcome ℕ) → p ≡ o → (o ≡ x) ↔ B → (p ≡ x) ↔ B
-along o p x e i = (λ h. i .0 (sym e ∙ h), λ b. e ∙ i .1 b)
-
 demanded : (d : Drawing ℕ) (S : ℕ → Type 0) → Lawful d S → (ws : List ℕ) (a : Answer) → DrawAllows d ws a → Demanded d S ws a
 demanded d S l ws a e =
     record {
-      draws = λ c u. along (draw d ws) (paper a) (drawn c u) e (accepted-exactly d ws c u);
-      refuses = λ n. along (draw d ws) (paper a) (refused n) e (lawful-exactly d S l ws n);
+      draws = λ c u. along e (accepted-exactly d ws c u);
+      refuses = λ n. along e (lawful-exactly d S l ws n);
       support = λ c u x. l .support ws c u (sym e ∙ x);
       one = λ b f. one-answer b a (f ∙ sym e);
     }

@@ -1,6 +1,6 @@
 -- Laws of the geometric draw: what 01 says of module 3 beside the rules themselves. Assumes nothing.
 use mathlib.Core.Path.{_≡_, refl, sym, ap, ap₂, _∙_, subst}
-use mathlib.Core.Bool.{Bool, true, false, _&&_, true≢false, cond}
+use mathlib.Core.Bool.{Bool, true, false, _&&_, true≢false, cond, and-eq-true-iff}
 use mathlib.Core.List.{List, [], _∷_}
 use mathlib.Core.Logic.{_⊎_, inl, inr, _↔_}
 use Prim.Native.Nat.{ℕ, suc, _+_, _*_, _-_, _%_, _^_, _≤_, _<_}
@@ -8,12 +8,9 @@ use native.Mathlib.Nat.{le-trans, mod-lt, mul-le-mul}
 use native.Mathlib.Omega.{arith}
 use borrow.Author.Count.{below-none, below-more}
 use borrow.Author.Tests.{not-false}
-use lib.Dec.{T}
 use lib.ListN.{length, take, getD}
 use lib.IntN.{pos}
 use lib.Ieee.{Float, nan, fin, binary64, round, sub, div, lt, eq, le, ofBits}
-use lib.Ieee.Bits.{is-true}
-use lib.Ieee.Fits.{and-l}
 use Rattle.words.specs.Words.{mostWords, ratio, fractionOf}
 use Rattle.words.specs.Outcome.{Outcome, drawn, refused}
 use Rattle.words.specs.Rule.{done, more, Rule, reading, Local, CanEnd}
@@ -320,7 +317,7 @@ module _ (p : Float) (ws : List ℕ) (c u : ℕ) (e : draw (geometric p) ws ≡ 
 -- where p passes, words can follow any tape with which the draw ends: of a large p the word 0, whose fraction is not above it
 zero-first : (p : Float) → isProbability p ≡ true → le (fractionOf 0) p ≡ true
 unfolding isProbability fractionOf round
-zero-first p e = is-true (le (ratio 0 1) p) (and-l (le (ratio 0 1) p) (le p (ratio 1 1)) (subst (λ (b : Bool). T b) (sym e) tt))
+zero-first p e = and-eq-true-iff (le (ratio 0 1) p) (le p (ratio 1 1)) .0 e .0
 
 not-rare : (p : Float) → isTooRare p ≡ false → isLarge p ≡ false → isNever p ≡ false → lt half (squares (qOf p) .pi) ≡ false
 unfolding isTooRare

@@ -156,12 +156,7 @@ fn c_deliver_hypergeometric(
     banlothek::banlothek_deliver_hypergeometric(tape, book, serial, total, marked, sample)
 }
 
-fn c_deliver_poisson(
-    tape: &[u64],
-    book: &mut [u8],
-    serial: u32,
-    threshold: u64,
-) -> BanlothekAnswer
+fn c_deliver_poisson(tape: &[u64], book: &mut [u8], serial: u32, threshold: u64) -> BanlothekAnswer
     ensures { λ r. ⌜ DeliverTells (now (tape .entry)) (now (book .entry)) serial (Poisson threshold) r (now (book .exit)) ⌝ }
 {
     banlothek::banlothek_deliver_poisson(tape, book, serial, threshold)

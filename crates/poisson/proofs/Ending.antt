@@ -1,5 +1,5 @@
 -- Words can follow any tape with which the Poisson draw ends: the fraction of the word 0 brings any product down. Assumes nothing.
-use mathlib.Core.Path.{_≡_, refl, ap, _∙_}
+use mathlib.Core.Path.{_≡_, refl, sym, ap, _∙_, subst}
 use mathlib.Core.Bool.{Bool, true, false}
 use mathlib.Core.List.{[], _∷_}
 use Prim.Native.Nat.{_+_, _*_, _^_}
@@ -49,7 +49,7 @@ times-zero x (fin s m e) a =
 module _ (x : Float) (inside : inRange x ≡ true) where
   is-above : T (above x)
   unfolding round
-  is-above = above-of-le (ratio 1 (2 ^ 18)) x tt (range-low x inside)
+  is-above = above-of-le (ratio 1 (2 ^ 18)) x tt (subst (λ (b : Bool). T b) (sym (range-low x inside)) tt)
 
   -- so the word 0 ends the draw in any state
   pub knuth-closes : (s : Product) → Closes (knuthRule x) s (0 ∷ [])

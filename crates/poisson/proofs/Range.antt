@@ -1,11 +1,9 @@
 -- The range of a threshold (01, module 2): its ends, and the bits of the floats in it. Assumes nothing.
-use mathlib.Core.Path.{_≡_, refl, sym, _∙_, subst}
-use mathlib.Core.Bool.{Bool, true, false, _&&_}
+use mathlib.Core.Path.{_≡_, refl, _∙_}
+use mathlib.Core.Bool.{true, false, _&&_, and-eq-true-iff}
 use Prim.Native.Nat.{ℕ, _^_, _≤_, _<_}
 use native.Mathlib.Omega.{arith}
-use lib.Dec.{T}
 use lib.Ieee.{Float, nan, binary64, round, le, ofBits}
-use lib.Ieee.Fits.{and-l}
 use Rattle.words.specs.Words.{ratio}
 use Rattle.words.proofs.Patterns.{bits-between, bits-under, bits-over}
 use Rattle.poisson.specs.Poisson.{inRange}
@@ -45,6 +43,6 @@ module _ (bits : ℕ) where
   bits-above h w = range-is (ofBits binary64 bits) ∙ bits-over lowest highest bits (omega arith) (omega arith) h w (λ e. omega arith)
 
 -- what is in the range is at least 2^-18
-pub range-low : (x : Float) → inRange x ≡ true → T (le (ratio 1 (2 ^ 18)) x)
+pub range-low : (x : Float) → inRange x ≡ true → le (ratio 1 (2 ^ 18)) x ≡ true
 unfolding inRange
-range-low x e = and-l (le (ratio 1 (2 ^ 18)) x) (le x (ratio 1 1)) (subst (λ (b : Bool). T b) (sym e) tt)
+range-low x e = and-eq-true-iff (le (ratio 1 (2 ^ 18)) x) (le x (ratio 1 1)) .0 e .0

@@ -48,6 +48,10 @@ exactly {A} cs o covered n = (λ e. go e (given-first cs o n e), first-given cs 
         let same : s .0 ≡ n = same-number {A = A} (s .0) n (sym (first-given cs o (s .0) (s .1)) ∙ e) in
         subst (λ (m : ℕ). First m cs) same (s .1)
 
+-- what holds exactly of the rule's outcome holds exactly of an equal answer's reading
+pub along : {A B : Type 0} {o p x : Outcome A} → p ≡ o → (o ≡ x) ↔ B → (p ≡ x) ↔ B
+along e i = (λ h. i .0 (sym e ∙ h), λ b. e ∙ i .1 b)
+
 -- what holds first in a list holds first whatever comes after it
 pub first-before : (cs ds : List Condition) (n : ℕ) → First n cs → First n (cs ++ ds)
 first-before [] ds n f = absurd f
