@@ -18,8 +18,7 @@ ghost use lib.Seq.{sets};
 ghost use Rattle.bytes_le.specs.LittleEndian.{bytesOf, wordsFrom};
 ghost use Rattle.kinds.specs.Kinds.{fixedLength, kindOf, parametersIn, kindNumber, parametersOf, lengthOf};
 ghost use Rattle.entry.specs.Entry.{parameterBytes, fixedBytes, entryBytes, countAt, entryAt};
-ghost use Rattle.entry.specs.Inner.{rowAt};
-ghost use Rattle.entry.specs.Inner.{HasEntry};
+ghost use Rattle.entry.specs.Inner.{rowAt, HasEntry};
 
 // Where an entry's fixed fields stand, counted from its first byte. The length stands first.
 pub const KIND: usize = 2;

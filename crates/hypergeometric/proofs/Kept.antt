@@ -15,11 +15,10 @@ use Rattle.words.proofs.Exactly.{exactly}
 use Rattle.words.proofs.Drawing.{parameters-next, draw-passed}
 use Rattle.hypergeometric.specs.declared.Hypergeometric.{Hypergeometric}
 use Rattle.hypergeometric.specs.SetUp.{setUp, trayRefusals, settled, FromSetUp}
-use Rattle.hypergeometric.specs.Inner.{Lands}
+use Rattle.hypergeometric.specs.Inner.{Lands, Small}
 use Rattle.hypergeometric.proofs.Reducing.{k≤n2}
 use Rattle.hypergeometric.proofs.Settling.{sizes, accepted-K, accepted-n, accepted-N, kept-none, kept-is, kept-lands}
 use Rattle.hypergeometric.specs.Inversion.{inverted}
-use Rattle.hypergeometric.specs.Inner.{Small}
 use Rattle.hypergeometric.specs.Hypergeometric.{hypergeometric, fromKept}
 use Rattle.hypergeometric.proofs.Walks.{inverted≤}
 

@@ -15,10 +15,9 @@ ghost use Rattle.words.specs.Outcome.{drawn};
 ghost use Rattle.words.specs.Refusals.{_on_, given};
 ghost use Rattle.words.specs.Draw.{DrawAllows};
 ghost use Rattle.hypergeometric.specs.Reduction.{landing, flip, byMarked, reduction};
-ghost use Rattle.hypergeometric.specs.Inner.{Lands};
+ghost use Rattle.hypergeometric.specs.Inner.{Lands, Small};
 ghost use Rattle.hypergeometric.specs.SetUp.{withFirst, zeroOrNotFinite, setUpPaper, SetUpAllows, FromSetUp};
 ghost use Rattle.hypergeometric.specs.Inversion.{nextP, inverted};
-ghost use Rattle.hypergeometric.specs.Inner.{Small};
 ghost use Rattle.hypergeometric.specs.Hypergeometric.{fromKept, hypergeometric};
 
 // The largest population that is drawn from.

@@ -14,8 +14,7 @@ ghost use lib.ListN.{length, drop};
 ghost use Rattle.entry.specs.Entry.{lengthAt};
 ghost use Rattle.layout.specs.Book.{bookTooLong, isClosed, head};
 ghost use Rattle.layout.specs.Sound.{offset};
-ghost use Rattle.layout.specs.Inner.{walked};
-ghost use Rattle.layout.specs.Inner.{Reaches};
+ghost use Rattle.layout.specs.Inner.{walked, Reaches};
 
 // How a book stands: the number of its entries, where they end, and the tape's place after them.
 pub struct Standing {

@@ -20,9 +20,8 @@ use Rattle.entry.specs.Entry.{lengthAt, entryAt, blank}
 use Rattle.layout.specs.Book.{lengthAll, usedAll, decode, mostBytes, bookTooLong, isNone}
 use Rattle.layout.specs.Sound.{offset}
 use Rattle.layout.specs.Standing.{standing}
-use Rattle.layout.specs.Inner.{walked}
+use Rattle.layout.specs.Inner.{walked, Reaches}
 use Rattle.entry.specs.Inner.{HasEntry}
-use Rattle.layout.specs.Inner.{Reaches}
 use Rattle.kinds.specs.Kinds.{fixedLength}
 use Rattle.layout.proofs.Decoding.{written, many, is-some}
 use Rattle.layout.proofs.Positions.{length-all-append, lies-offset, lies-entry, lies-whole, lies-on-tape, lies-reach}

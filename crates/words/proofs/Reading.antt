@@ -8,10 +8,9 @@ use native.Mathlib.Omega.{arith}
 use lib.ListN.{length, drop, drop-of-length-le}
 use lib.Seq.{drop-cons}
 use Rattle.words.specs.declared.Word.the-variants.{Is, End}
-use Rattle.words.specs.Inner.{wordAt}
+use Rattle.words.specs.Inner.{wordAt, isShort}
 use Rattle.words.specs.Outcome.{drawn, refused}
 use Rattle.words.specs.Rule.{Step, done, more, Rule, read, reading}
-use Rattle.words.specs.Inner.{isShort}
 use Rattle.words.proofs.Tape.{word-there, word-missing}
 
 -- a refusal is no draw

@@ -1,9 +1,8 @@
 // What every draw shares: a word of the tape by its place, the fraction of a word, the refusals, and a draw's answer.
 ghost use mathlib.Core.Path.{_≡_};
 ghost use Rattle.words.specs.Words.{fractionOf, tooLong};
-ghost use Rattle.words.specs.Inner.{wordAt};
+ghost use Rattle.words.specs.Inner.{wordAt, isShort};
 ghost use Rattle.words.specs.Paper.{numberOf};
-ghost use Rattle.words.specs.Inner.{isShort};
 
 // Why a call was refused: every name of the table of refusals, in the order of its numbers.
 pub enum Refusal {

@@ -11,8 +11,7 @@ use Rattle.kinds.specs.Kinds.{fixedLength, kindOf, parametersIn}
 use Rattle.kinds.specs.Inner.{rowOf}
 use Rattle.kinds.proofs.Table.{shape-length}
 use Rattle.entry.specs.Entry.{kindAt}
-use Rattle.entry.specs.Inner.{rowAt}
-use Rattle.entry.specs.Inner.{HasEntry}
+use Rattle.entry.specs.Inner.{rowAt, HasEntry}
 use Rattle.entry.proofs.row_at.Statement.{statement}
 use Rattle.entry.proofs.row_at.Tie as tie
 
