@@ -12,7 +12,7 @@ use Rattle.words.specs.Rule.{CanEnd}
 use Rattle.words.specs.Refusals.{First, NoneHolds}
 use Rattle.words.specs.Draw.{conditions}
 use Rattle.words.specs.Inner.{isShort}
-use Rattle.words.proofs.Lawful.{Lawful, IsShort, WantsMore, lawful-exactly, lawful-local, lawful-used, lawful-parameter, lawful-short}
+use Rattle.words.proofs.Lawful.{Lawful, RefusedShort, WantsMore, lawful-exactly, lawful-local, lawful-used, lawful-parameter, lawful-short}
 use Rattle.poisson.proofs.Laws.{poisson-lawful}
 use Rattle.geometric.proofs.GeometricLaws.{geometric-lawful}
 use Rattle.standard_geometric.proofs.Laws.{standard-lawful}
@@ -35,7 +35,7 @@ module _ (r : Request) where
 
   -- Exhausted in 01's words: the draw is refused by a number for a tape that is too short exactly when nothing is refused before a word is
   -- read and the rules call for a word past the end: over whatever longer tape it draws, it uses more words than this one has.
-  pub request-short : (ws : List ℕ) → IsShort (drawing r) ws ↔ WantsMore (drawing r) ws
+  pub request-short : (ws : List ℕ) → RefusedShort (drawing r) ws ↔ WantsMore (drawing r) ws
   request-short = lawful-short (drawing r) (Supported r) (lawful r)
 
   -- and where its parameters pass, there is a longer tape over which it draws

@@ -19,10 +19,10 @@ use Rattle.poisson.specs.Poisson.{Product, none, product, knuthRule, inR
 use Rattle.poisson.proofs.Range.{range-low}
 
 -- a zero of either sign, and what is no number, are not above a threshold of the range
-abbrev zero : Bool → Float
-zero s = fin s 0 (pos 0)
+abbrev signedZero : Bool → Float
+signedZero s = fin s 0 (pos 0)
 
-not-under-zero : (x : Float) (s : Bool) → T (above x) → lt x (zero s) ≡ false
+not-under-zero : (x : Float) (s : Bool) → T (above x) → lt x (signedZero s) ≡ false
 unfolding lt
 not-under-zero nan s a = absurd a
 not-under-zero (inf true) s a = absurd a

@@ -46,8 +46,8 @@ pub lawful-parameter : (d : Drawing ℕ) (S : ℕ → Type 0) → Lawful d S →
 lawful-parameter d S l n f = first-long (d .refusals) n (l .parameters) f
 
 -- the draw is refused by one of the numbers for a tape that is too short
-abbrev pub IsShort : Drawing ℕ → List ℕ → Type 0
-IsShort d ws = (n : ℕ) × ((isShort n ≡ true) × (draw d ws ≡ refused n))
+abbrev pub RefusedShort : Drawing ℕ → List ℕ → Type 0
+RefusedShort d ws = (n : ℕ) × ((isShort n ≡ true) × (draw d ws ≡ refused n))
 
 -- nothing is refused before a word is read, and a word past the end is called for
 pub record WantsMore (d : Drawing ℕ) (ws : List ℕ) : Type 0 where
@@ -75,7 +75,7 @@ module _ (d : Drawing ℕ) (S : ℕ → Type 0) (l : Lawful d S) (ws : List ℕ)
           }
 
   -- Exhausted in the paper's words: exactly when the rules call for a word past the end.
-  pub lawful-short : IsShort d ws ↔ WantsMore d ws
+  pub lawful-short : RefusedShort d ws ↔ WantsMore d ws
   lawful-short = (
     λ x. wants (x .0) (x .1 .0) (lawful-exactly (x .0) .0 (x .1 .1)),
     λ w.
