@@ -330,10 +330,10 @@ reading-can-end-of p h ws =
     let search : Rule Search ℕ = searchRule (qOf p) (2 ^ squares (qOf p) .k) (squares (qOf p) .pi) in
     let never : List ℕ → Outcome ℕ = λ vs. drawn (2 ^ 64 - 1) 0 in
     cond-can-end (isLarge p) (reading trivial) (λ vs. cond (isNever p) (never vs) (reading search vs)) ws
-    (λ l. reading-can-end trivial (λ n. (0 ∷ [], closes-done trivial n 0 [] n (rw (zero-first p (not-false (isProbability p) (h .0)))))) ws)
+    (λ l. reading-can-end trivial (λ n. (0, ([], closes-done trivial n 0 [] n (rw (zero-first p (not-false (isProbability p) (h .0))))))) ws)
     (λ l.
     cond-can-end (isNever p) never (reading search) ws
-    (λ n. ([], (2 ^ 64 - 1, (0, refl))))
+    (λ n. (0, ([], (2 ^ 64 - 1, (0, refl)))))
     (λ n. reading-can-end search (search-closes (qOf p) (2 ^ squares (qOf p) .k) (squares (qOf p) .pi) (not-rare p (h .1 .0) l n)) ws))
 
 -- what the layers above are owed; a count has no support

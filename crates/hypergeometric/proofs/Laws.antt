@@ -73,7 +73,7 @@ hypergeometric-lawful N K n =
       local = reading-local r;
       within = reading-used r;
       -- one word is enough, whatever it is
-      can-end = λ h. reading-can-end r (λ s. (0 ∷ [], closes-done r s 0 [] (counted (setUp N K n) 0) refl));
+      can-end = λ h. reading-can-end r (λ s. (0, ([], closes-done r s 0 [] (counted (setUp N K n) 0) refl)));
       fits = λ ws c u e. omega (arith, hypergeometric-bounds N K n ws c u e .1);
       support = hypergeometric-support N K n;
     }

@@ -92,7 +92,7 @@ poisson-lawful T =
       parameters = (refl, tt);
       local = reading-local (knuthRule T);
       within = reading-used (knuthRule T);
-      can-end = λ h. reading-can-end (knuthRule T) (λ s. (0 ∷ [], knuth-closes T (not-false (inRange T) (h .0)) s));
+      can-end = λ h. reading-can-end (knuthRule T) (λ s. (0, ([], knuth-closes T (not-false (inRange T) (h .0)) s)));
       fits = λ ws c u e. omega (arith, poisson-bounds T ws c u e .1);
       support = λ ws c u e. tt;
     }

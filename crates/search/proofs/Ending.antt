@@ -46,8 +46,8 @@ module _ (q : Float) (span : ℕ) (pi : Float) (low : lt half pi ≡ false) wher
       go true t = closes-done rule (acceptance d m) 0 (0 ∷ 0 ∷ []) (d * span + m) (rw t)
       go false t = closes-more rule (acceptance d m) (remainderWord d) 0 (0 ∷ 0 ∷ []) (rw t) (word-closes d)
 
-  pub search-closes : (s : Search) → (vs : List ℕ) × Closes rule s vs
+  pub search-closes : (s : Search) → (v : ℕ) × ((vs : List ℕ) × Closes rule s (v ∷ vs))
   search-closes (firstRun d) =
-      (largest ∷ 0 ∷ 0 ∷ [], closes-more rule (firstRun d) (remainderWord d) largest (0 ∷ 0 ∷ []) (rw (run-ends pi low)) (word-closes d))
-  search-closes (remainderWord d) = (0 ∷ 0 ∷ [], word-closes d)
-  search-closes (acceptance d m) = (0 ∷ 0 ∷ 0 ∷ [], try-closes d m)
+      (largest, (0 ∷ 0 ∷ [], closes-more rule (firstRun d) (remainderWord d) largest (0 ∷ 0 ∷ []) (rw (run-ends pi low)) (word-closes d)))
+  search-closes (remainderWord d) = (0, (0 ∷ [], word-closes d))
+  search-closes (acceptance d m) = (0, (0 ∷ 0 ∷ [], try-closes d m))

@@ -92,7 +92,7 @@ standard-lawful =
       local = reading-local standardRule;
       within = reading-used standardRule;
       -- a word that isn't 0 is the last
-      can-end = λ h. reading-can-end standardRule (λ n. (1 ∷ [], closes-done standardRule n 1 [] (n + leadingZeros 64 1) refl));
+      can-end = λ h. reading-can-end standardRule (λ n. (1, ([], closes-done standardRule n 1 [] (n + leadingZeros 64 1) refl)));
       fits = λ ws c u e. omega (arith, standard-bounds ws c u e .1);
       support = λ ws c u e. tt;
     }

@@ -30,7 +30,7 @@ pub record Lawful (d : Drawing ℕ) (S : ℕ → Type 0) : Type 0 where
   -- it looks at the words that it uses and at no others, and uses at most those that there are
   pub local : Local (d .reads)
   pub within : (ws : List ℕ) (c u : ℕ) → d .reads ws ≡ drawn c u → u ≤ length ws
-  -- where its parameters pass, words can follow any tape with which it draws
+  -- where its parameters pass, any tape has a longer one over which it draws
   pub can-end : NoneHolds (d .refusals) → (ws : List ℕ) → CanEnd (d .reads) ws
   -- a count fits 64 bits, and keeps to S
   pub fits : (ws : List ℕ) (c u : ℕ) → draw d ws ≡ drawn c u → c < 2 ^ 64

@@ -1,5 +1,5 @@
 -- Exhausted in the paper's words (01, 'Words and fractions'): a reading is refused exactly when it calls for a word past the end; and where
--- every state can end, words can follow with which it draws. Once, for every reading. Assumes nothing.
+-- every state can end, there is a longer tape over which it draws. Once, for every reading. Assumes nothing.
 use mathlib.Core.Path.{_≡_, refl, sym, ap, _∙_}
 use mathlib.Core.Bool.{Bool, true, false, cond}
 use mathlib.Core.List.{List, [], _∷_, _++_, append-nil}
@@ -22,16 +22,20 @@ IsRefused o = (n : ℕ) × (o ≡ refused n)
 
 module _ {A : Type 0} (F : List ℕ → Outcome A) (local : Local F)
     (within : (ws : List ℕ) (a : A) (u : ℕ) → F ws ≡ drawn a u → u ≤ length ws) (ws : List ℕ) where
-  -- a draw by no more words than ws has would have been made over ws
-  drawn-before : (vs : List ℕ) (a : A) (u : ℕ) → F (ws ++ vs) ≡ drawn a u → u ≤ length ws → F ws ≡ drawn a u
+  -- what is drawn over one of two lists that begin with ws, by no more words than ws has, is drawn over the other
+  drawn-too : (xs ys : List ℕ) (a : A) (u : ℕ) → F (ws ++ xs) ≡ drawn a u → u ≤ length ws → F (ws ++ ys) ≡ drawn a u
   unfolding Local
-  drawn-before vs a u e h = local (ws ++ vs) ws a u e (take-append-le u ws vs h)
+  drawn-too xs ys a u e h = local (ws ++ xs) (ws ++ ys) a u e (take-append-le u ws xs h ∙ sym (take-append-le u ws ys h))
+
+  -- ws is such a list too
+  alone : F (ws ++ []) ≡ F ws
+  alone = ap F (append-nil ws)
 
   refused-calls : IsRefused (F ws) → CallsPast F ws
-  refused-calls r vs a u e =
+  refused-calls r v vs a u e =
       elim (decLt (length ws) u) [
         | yes h ↦ h
-        | no h ↦ refused-not-drawn (r .0) a u (sym (r .1) ∙ drawn-before vs a u e (omega arith))
+        | no h ↦ refused-not-drawn (r .0) a u (sym (r .1) ∙ sym alone ∙ drawn-too (v ∷ vs) [] a u e (omega arith))
       ]
 
   calls-refused : CallsPast F ws → IsRefused (F ws)
@@ -39,7 +43,9 @@ module _ {A : Type 0} (F : List ℕ → Outcome A) (local : Local F)
     where
       go : (o : Outcome A) → F ws ≡ o → IsRefused (F ws)
       go (refused n) e = (n, e)
-      go (drawn a u) e = absurd (omega (arith, within ws a u e, h [] a u (ap F (append-nil ws) ∙ e)))
+      go (drawn a u) e =
+          let k : u ≤ length ws = within ws a u e in
+          absurd (omega (arith, h 0 [] a u (drawn-too [] (0 ∷ []) a u (alone ∙ e) k)))
 
   pub short-exactly : IsRefused (F ws) ↔ CallsPast F ws
   short-exactly = (refused-calls, calls-refused)
@@ -67,12 +73,12 @@ module _ {S A : Type 0} (r : Rule S A) where
       let x = h (suc u) in
       (x .0, (x .1 .0, ap (λ (st : Step S A). read r vs st (suc u)) e ∙ x .1 .1))
 
-  module _ (each : (s : S) → (vs : List ℕ) × Closes s vs) where
-    from : (ws : List ℕ) (st : Step S A) (u : ℕ) → (vs : List ℕ) × ((a : A) × ((v : ℕ) × (read r (ws ++ vs) st u ≡ drawn a v)))
+  module _ (each : (s : S) → (v : ℕ) × ((vs : List ℕ) × Closes s (v ∷ vs))) where
+    from : (ws : List ℕ) (st : Step S A) (u : ℕ) → (v : ℕ) × ((vs : List ℕ) × ((a : A) × ((k : ℕ) × (read r (ws ++ v ∷ vs) st u ≡ drawn a k))))
     unfolding read
-    from [] (done a) u = ([], (a, (u, refl)))
-    from [] (more s) u = (each s .0, each s .1 u)
-    from (w ∷ ws) (done a) u = ([], (a, (u, refl)))
+    from [] (done a) u = (0, ([], (a, (u, refl))))
+    from [] (more s) u = (each s .0, (each s .1 .0, each s .1 .1 u))
+    from (w ∷ ws) (done a) u = (0, ([], (a, (u, refl))))
     from (w ∷ ws) (more s) u = from ws (r .step s w) (suc u)
 
     -- where every state can end, so can a reading over any words

@@ -32,10 +32,10 @@ reading r ws = read r ws (r .start) 0
 unfoldable pub Local : {A : Type 0} → (List ℕ → Outcome A) → Type 0
 Local {A} F = (ws vs : List ℕ) (a : A) (u : ℕ) → F ws ≡ drawn a u → take u ws ≡ take u vs → F vs ≡ drawn a u
 
--- It calls for a word past the end of ws: whatever words follow them, where it then draws it uses more words than ws has.
+-- It calls for a word past the end of ws: over every longer list, where it draws it uses more words than ws has.
 abbrev pub CallsPast : {A : Type 0} → (List ℕ → Outcome A) → List ℕ → Type 0
-CallsPast {A} F ws = (vs : List ℕ) (a : A) (u : ℕ) → F (ws ++ vs) ≡ drawn a u → length ws < u
+CallsPast {A} F ws = (v : ℕ) (vs : List ℕ) (a : A) (u : ℕ) → F (ws ++ v ∷ vs) ≡ drawn a u → length ws < u
 
--- there are words that can follow ws and with which it draws
+-- there is a longer list over which it draws
 abbrev pub CanEnd : {A : Type 0} → (List ℕ → Outcome A) → List ℕ → Type 0
-CanEnd {A} F ws = (vs : List ℕ) × ((a : A) × ((u : ℕ) × (F (ws ++ vs) ≡ drawn a u)))
+CanEnd {A} F ws = (v : ℕ) × ((vs : List ℕ) × ((a : A) × ((u : ℕ) × (F (ws ++ v ∷ vs) ≡ drawn a u))))
