@@ -125,7 +125,7 @@ pub copy-answers : (ws b : List ℕ) (s : ℕ) (r : Request) → Bytes b → Non
     → (i : ℕ) → i ≡ offset b (s - 1) → (e : Entry) → entryAt b i ≡ some e → (o : Outcome Booking)
     → o ≡ given (14 on not (sameRequest (e .request) r) ∷ []) (copied e) → call o b ≡ deliver ws b s r
 copy-answers ws b s r by h nz l i ei e here o eo =
-    let is : e ≡ bookedAt (booked ws b) s = open-read ws b by h (s - 1) (omega (arith, nz)) i e ei here in
+    let is : e ≡ bookedAt (booked ws b) s = open-read (length ws) b by h (s - 1) (omega (arith, nz)) i e ei here in
     ap (λ (x : Outcome Booking). call x b) (eo ∙ ap (λ (x : Entry). given (14 on not (sameRequest (x .request) r) ∷ []) (copied x)) is)
     ∙ deliver-copy ws b s r h nz l
 

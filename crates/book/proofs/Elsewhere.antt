@@ -57,7 +57,7 @@ module _ (ws b : List ℕ) (j : ℕ) (by : Bytes b) where
   unfolding strike strikeIn strikeRefusals
   accepted-room m u e =
       let h : NoneHolds (limits ws b) = none-before (limits ws b) (16 on ltb (length es) j ∷ []) (drawn-exactly (strikeRefusals ws b es j) (drawn (length es - j) 0) m u .0 e .0) in
-      open-room ws b by h .0
+      open-room (length ws) b by h .0
 
   -- the last j entries' bytes are those from the end of the ones left to the end of all: they become zero
   pub strike-zeros : (m u : ℕ) → strike ws b j .outcome ≡ drawn m u → (k : ℕ) → lengthAll (leftBy j (booked ws b)) ≤ k → k < lengthAll (booked ws b)

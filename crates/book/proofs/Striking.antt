@@ -60,7 +60,7 @@ struck-left ws b j by st o l i ei b' eb =
     let en : st .entries ≡ length (booked ws b) = ap (λ (x : Standing). x .entries) (sym (o .1)) in
     let ee : st .end ≡ lengthAll (booked ws b) = ap (λ (x : Standing). x .end) (sym (o .1)) in
     let there : i ≡ lengthAll (leftBy j (booked ws b)) =
-    ei ∙ open-offset ws b by (o .0) (st .entries - j) (omega arith) ∙ ap (λ (k : ℕ). lengthAll (take (k - j) (booked ws b))) en in
+    ei ∙ open-offset (length ws) b by (o .0) (st .entries - j) (omega arith) ∙ ap (λ (k : ℕ). lengthAll (take (k - j) (booked ws b))) en in
     ap (call (drawn (st .entries - j) 0)) (eb ∙ λ k. wiped (there k) (ee k) b)
     ∙ ap (λ (k : ℕ). call (drawn (k - j) 0) (wiped (lengthAll (leftBy j (booked ws b))) (lengthAll (booked ws b)) b)) en
     ∙ strike-done ws b j (o .0) (omega arith)

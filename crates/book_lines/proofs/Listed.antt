@@ -10,7 +10,7 @@ use native.Mathlib.Numerals.{add-one}
 use native.Mathlib.Omega.{arith}
 use lib.ListN.{length, getD, drop, replicate, length-append, length-replicate, drop-of-length-le}
 use lib.Seq.{drop-cons}
-use borrow.Author.Tests.{ltb-false, le-ltb}
+use borrow.Author.Tests.{le-ltb}
 use Rattle.words.specs.Words.{mostWords}
 use Rattle.words.specs.Outcome.{drawn}
 use Rattle.words.specs.Refusals.{NoneHolds}
@@ -28,8 +28,9 @@ use Rattle.opening.specs.Calls.{isDamagedFor, bookedFor}
 use Rattle.layout.specs.Inner.{walked}
 use Rattle.entry.specs.Inner.{HasEntry}
 use Rattle.entry.proofs.Entries.{Fits}
-use Rattle.layout.proofs.Decoding.{written, many, is-some, zeros-decode}
-use Rattle.layout.proofs.Positions.{lies-entry, lies-whole, lies-fits, lies-reach}
+use Rattle.layout.proofs.Decoding.{zeros-decode}
+use Rattle.layout.proofs.Positions.{lies-fits}
+use Rattle.opening.proofs.Opening.{open-decodes, open-book, open-room, open-whole, open-next, open-read}
 use Rattle.layout.proofs.Walking.{walked-damaged, walked-sound}
 use Rattle.writing.specs.Digits.{decimal}
 use Rattle.writing.specs.Writing.{Writes}
@@ -67,26 +68,23 @@ lines-room (e ∷ es) d h = simp length-append (omega (arith, h 0 (omega arith),
 -- ---- the entries of a sound book, where they lie
 
 module _ (b : List ℕ) (by : Bytes b) (h : NoneHolds (listingRefusals b)) where
-  -- a book that none of the refusals stops has entries
   decodes : decode mostWords b ≡ some (entriesIn b)
-  unfolding isDamagedFor bookedFor
-  decodes = is-some (decode mostWords b) (h .1 .1 .0)
+  decodes = open-decodes mostWords b h
 
   -- the entry i, which begins at `from`
   module _ (i : ℕ) (l : i < length (entriesIn b)) (from : ℕ) (here : from ≡ offset b i) where
     -- it lies whole there
     pub entry-whole : HasEntry b from
-    entry-whole = rw here (lies-whole mostWords b (entriesIn b) by decodes blank i l)
+    entry-whole = rw here (open-whole mostWords b by h i l)
 
     -- and the one after it begins within the book
     pub entry-next : (from + 2 ≤ length b) × (from + lengthAt b from ≤ length b)
-    unfolding offset
-    entry-next = rw here (lies-reach mostWords b (entriesIn b) by decodes blank (suc i) l i (omega arith))
+    entry-next = open-next mostWords b by h i l from here
 
     module _ (e : Entry) (read : entryAt b from ≡ some e) where
       -- it is the one that was read there
       is : e ≡ getD (entriesIn b) i blank
-      is = cc (ap (entryAt b) here ∙ lies-entry mostWords b (entriesIn b) by decodes blank i l)
+      is = open-read mostWords b by h i l from e here read
 
       pub entry-room : length (entryLine e) ≤ 60
       entry-room = line-room e (rw is (lies-fits mostWords b (entriesIn b) by decodes blank i l))
@@ -107,9 +105,7 @@ module _ (b : List ℕ) (by : Bytes b) (h : NoneHolds (listingRefusals b)) where
 
   -- a book has at most 2,730 entries
   pub entries-few : length (entriesIn b) ≤ 2730
-  unfolding bookTooLong
-  entries-few =
-      omega (arith, ltb-false mostBytes (length b) (h .1 .0), written mostWords b (entriesIn b) by decodes .room, many (entriesIn b))
+  entries-few = omega (arith, open-book mostWords b h, open-room mostWords b by h .2)
 
 -- past the last, no line is left to write
 pub lines-done : (es : List Entry) (i : ℕ) (l : List ℕ) (x : ℕ) → length es ≤ i → x ≤ length l → Writes l x (entryLines (drop i es)) l x

@@ -73,7 +73,7 @@ module _ (ws : List ℕ) (n : ℕ) (over : length ws ≤ mostWords → n ≤ mos
   over-kept : (os : List Operation) → Kept ws n (run ws (state (replicate n 0) []) os)
   over-kept os =
       rw (all-still ws os (state (replicate n 0) [])
-      (λ h. over (open-tape ws (replicate n 0) h) (rw length-replicate at (open-book ws (replicate n 0) h))))
+      (λ h. over (open-tape ws (replicate n 0) h) (rw length-replicate at (open-book (length ws) (replicate n 0) h))))
       empty-kept
 
 -- ---- within them: the book holds entries that stand, and the history is theirs

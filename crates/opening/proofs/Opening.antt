@@ -1,6 +1,6 @@
 -- Laws of what every call begins with: 1, 11 and 12, and then the entries of a sound book. Assumes nothing.
 use mathlib.Core.Path.{_≡_, sym, ap, _∙_}
-use mathlib.Core.Bool.{true, false}
+use mathlib.Core.Bool.{Bool, true, false}
 use mathlib.Core.List.{List, [], _++_}
 use mathlib.Core.Option.{Option, some, Option·getD}
 use Prim.Native.Nat.{ℕ, suc, _+_, _*_, _≤_, _<_}
@@ -26,25 +26,26 @@ use Rattle.kinds.specs.Kinds.{fixedLength}
 use Rattle.layout.proofs.Decoding.{written, many, is-some}
 use Rattle.layout.proofs.Positions.{length-all-append, lies-offset, lies-entry, lies-whole, lies-on-tape, lies-reach}
 use Rattle.layout.proofs.Walking.{walked-damaged, walked-sound}
-use Rattle.opening.specs.Calls.{isDamagedFor, bookedFor, booked, limits}
+use Rattle.opening.specs.Calls.{isDamagedFor, bookedFor, booked, limitsFor, limits}
 use Rattle.opening.specs.Inner.{IsOpen, opened}
 use Rattle.layout.specs.declared.Standing.{Standing}
+
+-- a call that passed its limits has the entries of a sound book
+pub open-decodes : {long : Bool} (t : ℕ) (b : List ℕ) → NoneHolds (limitsFor long t b) → decode t b ≡ some (bookedFor t b)
+unfolding bookedFor isDamagedFor
+open-decodes t b h = is-some (decode t b) (h .1 .1 .0)
+
+-- and no more bytes than a book may have
+pub open-book : {long : Bool} (t : ℕ) (b : List ℕ) → NoneHolds (limitsFor long t b) → length b ≤ mostBytes
+unfolding bookTooLong
+open-book t b h = ltb-false mostBytes (length b) (h .1 .0)
 
 module _ (ws b : List ℕ) where
   -- ---- past the limits
 
-  -- a call that passed them has the entries of a sound book
-  pub open-decodes : NoneHolds (limits ws b) → decode (length ws) b ≡ some (booked ws b)
-  unfolding bookedFor isDamagedFor
-  open-decodes h = is-some (decode (length ws) b) (h .1 .1 .0)
-
-  -- a tape and a book within their limits
+  -- its tape is within its limit
   pub open-tape : NoneHolds (limits ws b) → length ws ≤ mostWords
   open-tape h = within-limit ws (h .0)
-
-  pub open-book : NoneHolds (limits ws b) → length b ≤ mostBytes
-  unfolding bookTooLong
-  open-book h = ltb-false mostBytes (length b) (h .1 .0)
 
   -- and the other way round
   pub opens : (es : List Entry) → length ws ≤ mostWords → length b ≤ mostBytes → decode (length ws) b ≡ some es → NoneHolds (limits ws b) × (booked ws b ≡ es)
@@ -102,37 +103,37 @@ module _ (ws b : List ℕ) where
       let x = drawn-exactly (limits ws b) (drawn (standing (booked ws b)) 0) st u .0 (sym e) in
       (x .0, cc)
 
--- ---- the entries of an open book, where they lie
+-- ---- the entries of an open book, where they lie: for a tape of t words
 
-module _ (ws b : List ℕ) (by : Bytes b) (h : NoneHolds (limits ws b)) where
+module _ {long : Bool} (t : ℕ) (b : List ℕ) (by : Bytes b) (h : NoneHolds (limitsFor long t b)) where
   abbrev es : List Entry
-  es = booked ws b
+  es = bookedFor t b
 
   -- they end within the book, and their words are on the tape
-  pub open-room : (lengthAll (booked ws b) ≤ length b) × (usedAll (booked ws b) ≤ length ws) × (fixedLength * length (booked ws b) ≤ length b)
+  pub open-room : (lengthAll (bookedFor t b) ≤ length b) × (usedAll (bookedFor t b) ≤ t) × (fixedLength * length (bookedFor t b) ≤ length b)
   open-room =
-      let wr = written (length ws) b es by (open-decodes ws b h) in
+      let wr = written t b es by (open-decodes t b h) in
       (wr .room, omega (arith, wr .tape), omega (arith, wr .room, many es))
 
-  pub open-reach : (k : ℕ) → k ≤ length (booked ws b) → Reaches b k
-  open-reach = lies-reach (length ws) b es by (open-decodes ws b h) blank
+  pub open-reach : (k : ℕ) → k ≤ length (bookedFor t b) → Reaches b k
+  open-reach = lies-reach t b es by (open-decodes t b h) blank
 
-  pub open-offset : (k : ℕ) → k ≤ length (booked ws b) → offset b k ≡ lengthAll (take k (booked ws b))
-  open-offset = lies-offset (length ws) b es by (open-decodes ws b h) blank
+  pub open-offset : (k : ℕ) → k ≤ length (bookedFor t b) → offset b k ≡ lengthAll (take k (bookedFor t b))
+  open-offset = lies-offset t b es by (open-decodes t b h) blank
 
-  pub open-within : (k : ℕ) → k ≤ length (booked ws b) → offset b k ≤ lengthAll (booked ws b)
+  pub open-within : (k : ℕ) → k ≤ length (bookedFor t b) → offset b k ≤ lengthAll (bookedFor t b)
   open-within k l =
       omega (arith, open-offset k l, ap lengthAll (take-append-drop k es), length-all-append (take k es) (drop k es))
 
-  module _ (i : ℕ) (l : i < length (booked ws b)) where
-    pub open-entry : entryAt b (offset b i) ≡ some (getD (booked ws b) i blank)
-    open-entry = lies-entry (length ws) b es by (open-decodes ws b h) blank i l
+  module _ (i : ℕ) (l : i < length (bookedFor t b)) where
+    pub open-entry : entryAt b (offset b i) ≡ some (getD (bookedFor t b) i blank)
+    open-entry = lies-entry t b es by (open-decodes t b h) blank i l
 
     pub open-whole : HasEntry b (offset b i)
-    open-whole = lies-whole (length ws) b es by (open-decodes ws b h) blank i l
+    open-whole = lies-whole t b es by (open-decodes t b h) blank i l
 
-    pub open-place : getD (booked ws b) i blank .place ≤ length ws
-    open-place = lies-on-tape (length ws) b es by (open-decodes ws b h) blank i l
+    pub open-place : getD (bookedFor t b) i blank .place ≤ t
+    open-place = lies-on-tape t b es by (open-decodes t b h) blank i l
 
     -- the next begins within the book
     pub open-next : (at : ℕ) → at ≡ offset b i → (at + 2 ≤ length b) × (at + lengthAt b at ≤ length b)
@@ -140,15 +141,15 @@ module _ (ws b : List ℕ) (by : Bytes b) (h : NoneHolds (limits ws b)) where
     open-next at ea = rw ea (open-reach (suc i) l i (omega arith))
 
     -- and what was read there is that entry
-    pub open-read : (at : ℕ) (e : Entry) → at ≡ offset b i → entryAt b at ≡ some e → e ≡ getD (booked ws b) i blank
+    pub open-read : (at : ℕ) (e : Entry) → at ≡ offset b i → entryAt b at ≡ some e → e ≡ getD (bookedFor t b) i blank
     open-read at e ea here = cc (ap (entryAt b) ea ∙ open-entry)
 
 -- the same of what a call was told
 pub stands-room : (ws b : List ℕ) (st : Standing) → Bytes b → IsOpen ws b st
     → (st .end ≤ length b) × (st .place ≤ length ws) × (fixedLength * st .entries ≤ length b) × (length b ≤ mostBytes)
 stands-room ws b st by o =
-    let r = open-room ws b by (o .0) in
+    let r = open-room (length ws) b by (o .0) in
     let en : length (booked ws b) ≡ st .entries = ap (λ (x : Standing). x .entries) (o .1) in
     let ei : lengthAll (booked ws b) ≡ st .end = ap (λ (x : Standing). x .end) (o .1) in
     let ep : usedAll (booked ws b) ≡ st .place = ap (λ (x : Standing). x .place) (o .1) in
-    (omega arith, omega arith, omega arith, open-book ws b (o .0))
+    (omega arith, omega arith, omega arith, open-book (length ws) b (o .0))

@@ -133,7 +133,7 @@ module _ (ws : List ℕ) (e : Entry) where
 module _ (ws b : List ℕ) (by : Bytes b) (h : NoneHolds (limits ws b)) (i : ℕ) (l : i < length (booked ws b)) (at : ℕ) (ea : at ≡ offset b i)
     (same : lowest ws (drop i (booked ws b)) ≡ lowest ws (booked ws b)) (e : Entry) (here : entryAt b at ≡ some e) (z : Bool) (ez : z ≡ agrees ws e) where
   is : e ≡ getD (booked ws b) i blank
-  is = open-read ws b by h i l at e ea here
+  is = open-read (length ws) b by h i l at e ea here
 
   tested : agrees ws (getD (booked ws b) i blank) ≡ z
   tested = ap (agrees ws) (sym is) ∙ sym ez

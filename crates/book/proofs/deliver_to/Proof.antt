@@ -73,14 +73,14 @@ sub-offset-of c = search needs
 offset-of-requires : tie.Need-offset-of-requires
 offset-of-requires c κs =
     let n = known (c .before) in
-    open-reach (ws n) (b n) (by n) (is-open n) _ (omega (arith, below (c .before)))
+    open-reach (length (ws n)) (b n) (by n) (is-open n) _ (omega (arith, below (c .before)))
 
 entry-at-requires : tie.Need-entry-at-requires
 entry-at-requires c κs =
     let o = c .before in
     let t = o .before .before in
     let n = known t in
-    rw (o .offset-of .ensures) (open-whole (ws n) (b n) (by n) (is-open n) _ (omega (arith, below t, at-1 t .if1 .left)))
+    rw (o .offset-of .ensures) (open-whole (length (ws n)) (b n) (by n) (is-open n) _ (omega (arith, below t, at-1 t .if1 .left)))
 
 copy-of-requires : tie.Need-copy-of-requires
 copy-of-requires c κs = search needs

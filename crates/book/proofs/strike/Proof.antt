@@ -67,15 +67,15 @@ returns c =
 offset-of-requires : tie.Need-offset-of-requires
 offset-of-requires c κs =
     let n = stood (c .before .before) in
-    open-reach (ws n) (b n) (by n) (stands n .0) _ (omega (arith, number n))
+    open-reach (length (ws n)) (b n) (by n) (stands n .0) _ (omega (arith, number n))
 
 wipe-requires : tie.Need-wipe-requires
 wipe-requires c κs =
     let n = stood (c .before .before .before .before) in
     let k : st n .entries - start n .args .j ≤ length (booked (ws n) (b n)) = omega (arith, number n) in
     let ends : lengthAll (booked (ws n) (b n)) ≡ st n .end = ap (λ (x : Standing). x .end) (stands n .1) in (
-      omega (arith, c .before .offset-of .ensures, open-within (ws n) (b n) (by n) (stands n .0) _ k),
-      omega (arith, open-room (ws n) (b n) (by n) (stands n .0) .0),
+      omega (arith, c .before .offset-of .ensures, open-within (length (ws n)) (b n) (by n) (stands n .0) _ k),
+      omega (arith, open-room (length (ws n)) (b n) (by n) (stands n .0) .0),
     )
 
 same-length-2 : tie.Need-same-length-2

@@ -54,20 +54,20 @@ module _ (c : tie.In-loop Inv-loop μ-loop) where
   same = c .before .loop .inv .2
 
   reach : (at + 2 ≤ length b) × (at + lengthAt b at ≤ length b)
-  reach = open-next ws b by is-open i less at here
+  reach = open-next (length ws) b by is-open i less at here
 
 loop-holds : tie.Need-loop-holds Inv-loop μ-loop
 unfolding offset
 loop-holds c = (search needs, refl, refl)
 
 entry-at-requires : tie.Need-entry-at-requires Inv-loop μ-loop
-entry-at-requires c κs = rw (here c) (open-whole (ws c) (b c) (by c) (is-open c) (i c) (less c))
+entry-at-requires c κs = rw (here c) (open-whole (length (ws c)) (b c) (by c) (is-open c) (i c) (less c))
 
 agrees-on-requires : tie.Need-agrees-on-requires Inv-loop μ-loop
 agrees-on-requires c κs =
     let n = c .before in
-    rw (open-read (ws n) (b n) (by n) (is-open n) (i n) (less n) (at n) _ (here n) (c .entry-at .ensures))
-    (open-place (ws n) (b n) (by n) (is-open n) (i n) (less n))
+    rw (open-read (length (ws n)) (b n) (by n) (is-open n) (i n) (less n) (at n) _ (here n) (c .entry-at .ensures))
+    (open-place (length (ws n)) (b n) (by n) (is-open n) (i n) (less n))
 
 returns : tie.Need-returns Inv-loop μ-loop
 returns c =
