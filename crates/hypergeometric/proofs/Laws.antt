@@ -29,6 +29,13 @@ pub inversion-exact : (N K n : ℕ) → NoneHolds (trayRefusals N K n) → (x : 
     → StepExact (setUp N K n .n1) (setUp N K n .n2) (setUp N K n .k) x
 inversion-exact N K n none x h = let s = setUp N K n in step-exact (s .n1) (s .n2) (s .k) x (set-up-small N K n none) h
 
+-- whatever the word, an accepted tray's count lies in max(0, n+K-N) to min(n, K)
+pub counted-support : (N K n : ℕ) → NoneHolds (trayRefusals N K n) → (w : ℕ) → InSupport N K n (counted (setUp N K n) w)
+unfolding counted setUp
+counted-support N K n none w =
+    let h = setUp N K n in
+    carries N K n (accepted-K N K n none) (accepted-n N K n none) .into _ (inverted≤ (h .n1) (h .n2) (h .k) (h .first) (fractionOf w))
+
 module _ (N K n : ℕ) (ws : List ℕ) (c u : ℕ) (e : draw (hypergeometric N K n) ws ≡ drawn c u) where
   -- used is 1, and the count is that of the first word
   drew : (u ≡ 1) × (c ≡ counted (setUp N K n) (getD ws 0 0))
@@ -51,11 +58,7 @@ module _ (N K n : ℕ) (ws : List ℕ) (c u : ℕ) (e : draw (hypergeometric N K
 
   -- the count lies in max(0, n+K-N) to min(n, K)
   pub hypergeometric-support : InSupport N K n c
-  unfolding counted setUp
-  hypergeometric-support =
-      let h = setUp N K n in
-      subst (InSupport N K n) (sym hypergeometric-count)
-      (carries N K n (accepted-K N K n none) (accepted-n N K n none) .into _ (inverted≤ (h .n1) (h .n2) (h .k) (h .first) (fractionOf (getD ws 0 0))))
+  hypergeometric-support = subst (InSupport N K n) (sym hypergeometric-count) (counted-support N K n none (getD ws 0 0))
 
   pub hypergeometric-bounds : (u ≤ mostWords) × (c ≤ populationCap)
   hypergeometric-bounds =

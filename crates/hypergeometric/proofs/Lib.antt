@@ -5,3 +5,4 @@ pub mod Signs
 pub mod Walks
 pub mod Kept
 pub mod Laws
+pub mod RustWalking

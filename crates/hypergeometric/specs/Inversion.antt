@@ -4,9 +4,16 @@ use mathlib.Core.Bool.{Bool, true, false}
 use lib.Ieee.{Float, binary64, sub, mul, div, lt}
 use Rattle.first_probability.specs.First.{asFloat}
 
--- the probability of x + 1 from that of x: a product, then a quotient, each by one whole number
+-- the two whole numbers of a step from x to x + 1
+abbrev pub upBy : ℕ → ℕ → ℕ → ℕ
+upBy n1 k x = (n1 - x) * (k - x)
+
+abbrev pub downBy : ℕ → ℕ → ℕ → ℕ
+downBy n2 k x = (x + 1) * (n2 - k + 1 + x)
+
+-- the probability of x + 1 from that of x: a product, then a quotient
 unfoldable pub nextP : ℕ → ℕ → ℕ → ℕ → Float → Float
-nextP n1 n2 k x p = div binary64 (mul binary64 p (asFloat ((n1 - x) * (k - x)))) (asFloat ((x + 1) * (n2 - k + 1 + x)))
+nextP n1 n2 k x p = div binary64 (mul binary64 p (asFloat (upBy n1 k x))) (asFloat (downBy n2 k x))
 
 -- The bound is r steps ahead of x, and the Bool says whether u is above p. Where both leave a step to take, u loses p, p becomes the next
 -- one, and x moves on by 1.

@@ -3,4 +3,5 @@ pub mod SetUp
 pub mod RustTest
 pub mod Inversion
 pub mod Hypergeometric
+pub mod RustWalk
 pub mod Inner

@@ -1,0 +1,1 @@
+// No code: what a hypergeometric count means (specs/), and that the reduction and the inversion keep to it.
