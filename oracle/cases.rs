@@ -51,11 +51,21 @@ pub enum Act {
 pub enum Entry {
     None = 0,
     Support = 1,
+    LargeK = 4,
     Threshold = 5,
     Cap = 9,
+    Rejection = 10,
 }
 
-const ENTRIES: [Entry; 4] = [Entry::None, Entry::Support, Entry::Threshold, Entry::Cap];
+/// The entries in the order in which they are reported.
+const ENTRIES: [Entry; 6] = [
+    Entry::None,
+    Entry::Support,
+    Entry::LargeK,
+    Entry::Threshold,
+    Entry::Cap,
+    Entry::Rejection,
+];
 
 /// A request, the tape, and what the Rust did. Of a kept tray `tape` has pairs: a word, and the
 /// count over it. A fraction has its word and its bits as parameters, and nothing else.
@@ -70,17 +80,17 @@ pub struct Case {
 
 impl Case {
     /// The entry that lists this case, by the oracle's own test. A population over the cap is
-    /// refused before anything is drawn, so it comes before the support.
+    /// refused before a method is chosen or anything is drawn, so it comes first.
     pub fn entry(&self) -> Entry {
         let is_tray = matches!(self.kind, Kind::Hypergeometric | Kind::Kept);
         if is_tray && is_over_cap(self.parameters) {
             return Entry::Cap;
         }
-        match self.kind {
-            Kind::Hypergeometric if self.act == Act::Drew => {
-                support_entry(self.parameters, self.count)
-            }
-            Kind::Poisson if !is_in_range(f64::from_bits(self.parameters[0])) => Entry::Threshold,
+        match (self.kind, self.act) {
+            (_, Act::ChoseRejection) => Entry::Rejection,
+            (_, Act::ChoseLargeK) => Entry::LargeK,
+            (Kind::Hypergeometric, Act::Drew) => support_entry(self.parameters, self.count),
+            (Kind::Poisson, _) => threshold_entry(self.parameters),
             _ => Entry::None,
         }
     }
@@ -126,6 +136,15 @@ fn support_entry([total, marked, sample]: [u64; 3], count: u64) -> Entry {
         Entry::Support
     } else {
         Entry::None
+    }
+}
+
+/// Whether a threshold is outside its range.
+fn threshold_entry([bits, _, _]: [u64; 3]) -> Entry {
+    if is_in_range(f64::from_bits(bits)) {
+        Entry::None
+    } else {
+        Entry::Threshold
     }
 }
 

@@ -10,6 +10,12 @@ impl Chance {
         Chance { state: seed }
     }
 
+    /// A generator of its own for the next case, seeded by one word of this one. So a case that takes
+    /// more words, or fewer, moves no other.
+    pub fn for_case(&mut self) -> Self {
+        Chance::new(self.word())
+    }
+
     /// The next word, each of the 2^64 as likely.
     pub fn word(&mut self) -> u64 {
         self.state = self.state.wrapping_add(0x9e37_79b9_7f4a_7c15);

@@ -5,6 +5,7 @@ use crate::cases::{Case, CAP};
 use crate::chance::Chance;
 use crate::judge::{Rate, Tray};
 use crate::lean::{beside, half_to, NAN, NEGATIVE_NAN};
+use crate::powers::{e_to_minus, power};
 use crate::rates;
 use crate::stored::{geometric, poisson, standard, tray, HALF, STEP, THREE_QUARTERS, TOP};
 use crate::thresholds::LEAST;
@@ -60,9 +61,9 @@ fn threshold_met() -> Vec<Case> {
         0.75,
         LEAST,
         1.0 - half_to(53),
-        (-1.0_f64).exp(),
-        (-5.0_f64).exp(),
-        (-11.5_f64).exp(),
+        e_to_minus(1.0),
+        e_to_minus(5.0),
+        e_to_minus(11.5),
     ];
     let mut cases = Vec::new();
     for threshold in thresholds {
@@ -145,7 +146,7 @@ fn powers_met() -> Vec<Case> {
         for by in -1..=1 {
             cases.push(geometric(p, &[word_at(rate.pi(), by), TOP, 1, 0, 0]));
             for m in [1, largest / 2, largest] {
-                let met = word_at((1.0 - p).powi(m as i32), by);
+                let met = word_at(power(1.0 - p, m), by);
                 cases.push(geometric(p, &[TOP, m, met, 0, 0]));
             }
         }

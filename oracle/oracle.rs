@@ -14,6 +14,7 @@ mod hypergeometric;
 mod judge;
 mod lean;
 mod poisson;
+mod powers;
 mod random;
 mod rates;
 mod shim;

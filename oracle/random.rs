@@ -47,12 +47,12 @@ fn choose(chance: &mut Chance) -> Choice {
 
 /// Writes so many draws, all kinds mixed. Gives the totals.
 pub fn random(out: impl Write, seed: u64, draws: u64) -> io::Result<String> {
-    let mut chance = Chance::new(seed);
+    let mut seeds = Chance::new(seed);
     let edges = rates::edges();
     let mut writer = Writer::new(out);
     let mut left = draws;
     while left > 0 {
-        let case = any_case(&mut chance, &edges, left);
+        let case = any_case(&mut seeds.for_case(), &edges, left);
         writer.put(&case)?;
         left -= case.draws();
     }
@@ -63,7 +63,7 @@ pub fn random(out: impl Write, seed: u64, draws: u64) -> io::Result<String> {
 fn any_case(chance: &mut Chance, edges: &[f64], most: u64) -> Case {
     match choose(chance) {
         Choice::Hypergeometric => trays::random_case(chance),
-        Choice::Poisson => thresholds::random_case(chance, LONGEST),
+        Choice::Poisson => thresholds::random_case(chance, LONGEST, Threshold::of_lambda),
         Choice::Geometric => rates::random_case(chance, edges, LONGEST),
         Choice::Standard => rates::standard_case(chance, LONGEST_STANDARD),
         Choice::MediumTray => {
@@ -82,12 +82,13 @@ fn any_case(chance: &mut Chance, edges: &[f64], most: u64) -> Case {
 /// Writes so many Poisson draws by the Rust's own set-up from lambda, each over just the words that
 /// it used. Gives the totals and the thresholds seen, and whether all were in range.
 pub fn lambdas(out: impl Write, seed: u64, draws: u64) -> io::Result<(String, bool)> {
-    let mut chance = Chance::new(seed);
+    let mut seeds = Chance::new(seed);
     let mut writer = Writer::new(out);
     let (mut least, mut greatest) = (f64::INFINITY, f64::NEG_INFINITY);
     let mut all_inside = true;
     let mut fixed = thresholds::fixed_lambdas().into_iter();
     for _ in 0..draws {
+        let mut chance = seeds.for_case();
         let lambda = fixed
             .next()
             .unwrap_or_else(|| thresholds::lambda(&mut chance));

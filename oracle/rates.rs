@@ -6,6 +6,7 @@ use crate::chance::Chance;
 use crate::fraction;
 use crate::judge::{Rate, Standard};
 use crate::lean::{self, beside, half_to, word_beside};
+use crate::powers::{power, two_to_minus};
 
 /// From here on the Rust counts fractions one by one.
 pub const TRIVIAL: f64 = 2.0 / 3.0;
@@ -53,7 +54,7 @@ fn probability(chance: &mut Chance, edges: &[f64]) -> f64 {
     let rare = [half_to(31), half_to(32), half_to(53), half_to(54), rarest];
     match chance.below(20) {
         0..=6 => chance.unit(),
-        7 | 8 => (-32.0 * chance.unit()).exp2(),
+        7 | 8 => two_to_minus(32.0 * chance.unit()),
         9 | 10 => beside(TRIVIAL, chance.step(3)),
         11 => beside(1.0, chance.step(3)),
         12 | 13 => beside(half_to(1 + chance.below(60)), chance.step(3)),
@@ -141,7 +142,7 @@ fn leaning_word(chance: &mut Chance, rate: &Rate, place: Place) -> u64 {
             word_beside(chance, below, 0)
         }
         (Place::Remainder, _) => remainder_word(chance, rate.k()),
-        (Place::Try(m), 2..=6) => word_beside(chance, (1.0 - rate.p()).powi(m as i32), 2),
+        (Place::Try(m), 2..=6) => word_beside(chance, power(1.0 - rate.p(), m), 2),
         (Place::Try(_), _) => lean::high_word(chance),
     }
 }

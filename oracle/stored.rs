@@ -1,5 +1,6 @@
 //! The stored list: cases for the repository's own tests, which then need no Rust at hand. It is
-//! the same each time, but for thresholds that the platform's exp gives.
+//! the same each time and on every machine, as far as the compiler's powi is, by which the Rust
+//! draws: no threshold in it is from the platform's exp.
 
 use crate::cases::{Act, Case, Entry, Kind, Writer, CAP};
 use crate::chance::Chance;
@@ -221,7 +222,11 @@ fn random_cases() -> Vec<Case> {
     let mut cases = Vec::new();
     for turn in 0..252 {
         cases.push(trays::random_case(chance));
-        cases.push(thresholds::random_case(chance, LONGEST));
+        cases.push(thresholds::random_case(
+            chance,
+            LONGEST,
+            thresholds::worked_out,
+        ));
         cases.push(rates::random_case(chance, &edges, LONGEST));
         cases.push(rates::standard_case(chance, 5));
         if turn % 12 == 0 {

@@ -6,6 +6,7 @@ use crate::chance::Chance;
 use crate::fraction;
 use crate::judge::Threshold;
 use crate::lean::{self, beside, half_to, word_beside};
+use crate::powers::{e_to_minus, two_to_minus};
 
 /// The least threshold that is accepted on the other side.
 pub const LEAST: f64 = 1.0 / 262_144.0;
@@ -13,10 +14,11 @@ pub const LEAST: f64 = 1.0 / 262_144.0;
 /// Poisson draws are set up by Knuth's method below this lambda.
 const MOST_LAMBDA: f64 = 12.0;
 
-/// A case of either source of a threshold, with about `longest` words at most.
-pub fn random_case(chance: &mut Chance, longest: usize) -> Case {
+/// A case of either source of a threshold, with about `longest` words at most. `of_lambda` gives the
+/// threshold of a lambda: the Rust's own set-up, or `worked_out`.
+pub fn random_case(chance: &mut Chance, longest: usize, of_lambda: fn(f64) -> Threshold) -> Case {
     let threshold = if chance.one_in(2) {
-        Threshold::of_lambda(lambda(chance))
+        of_lambda(lambda(chance))
     } else {
         Threshold::handed(threshold_bits(chance))
     };
@@ -34,14 +36,19 @@ pub fn random_case(chance: &mut Chance, longest: usize) -> Case {
     })
 }
 
+/// The threshold of a lambda, the same on every machine. The Rust's own is from the platform's exp.
+pub fn worked_out(lambda: f64) -> Threshold {
+    Threshold::handed(e_to_minus(lambda).to_bits())
+}
+
 /// A lambda above 0 and below 12: uniform, or close to either end.
 pub fn lambda(chance: &mut Chance) -> f64 {
     let smallest = f64::from_bits(1);
     let last = beside(MOST_LAMBDA, -1);
-    let distance = MOST_LAMBDA * (-50.0 * chance.unit()).exp2();
+    let halvings = 50.0 * chance.unit();
     match chance.below(4) {
-        0 => (-1074.0 * chance.unit()).exp2(),
-        1 => MOST_LAMBDA - distance,
+        0 => two_to_minus(1_074.0 * chance.unit()),
+        1 => MOST_LAMBDA - MOST_LAMBDA * two_to_minus(halvings),
         _ => MOST_LAMBDA * chance.unit(),
     }
     .clamp(smallest, last)
@@ -60,7 +67,7 @@ pub fn fixed_lambdas() -> Vec<f64> {
 /// The bits of a threshold to hand in; about one in seven is outside the range.
 fn threshold_bits(chance: &mut Chance) -> u64 {
     let threshold = match chance.below(16) {
-        0..=5 => (-MOST_LAMBDA * chance.unit()).exp(),
+        0..=5 => e_to_minus(MOST_LAMBDA * chance.unit()),
         // These two are fractions of words, so that a first fraction can meet them.
         6 => fraction(chance.word()),
         7 => fraction(chance.word() >> chance.below(18)),

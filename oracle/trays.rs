@@ -5,6 +5,7 @@ use crate::cases::{Act, Case, Kind, CAP};
 use crate::chance::Chance;
 use crate::judge::{SetUp, Sizes, Tray};
 use crate::lean::{self, word_beside};
+use crate::powers::two_to_minus;
 
 /// A set-up of the Rust goes through n1 + k factors. One that would take more is not asked for.
 const MOST_FACTORS: u64 = 2_000_000;
@@ -12,6 +13,9 @@ const MOST_FACTORS: u64 = 2_000_000;
 /// Trays at the edge of the mode have a shorter side of at most this. From about 50 on the first
 /// probability of a large tray overflows, so that both sides of that edge are met too.
 const WIDEST: u64 = 60;
+
+/// The cap halved so often is just above 5,000.
+const HALVINGS: f64 = 7.711;
 
 /// A case of one draw.
 pub fn random_case(chance: &mut Chance) -> Case {
@@ -99,7 +103,7 @@ pub fn medium(chance: &mut Chance) -> [u64; 3] {
 pub fn large(chance: &mut Chance) -> [u64; 3] {
     let total = match chance.below(3) {
         0 => CAP + 1 - chance.below(8),
-        _ => (5_001.0 * (CAP as f64 / 5_001.0).powf(chance.unit())) as u64,
+        _ => (CAP as f64 * two_to_minus(HALVINGS * chance.unit())) as u64,
     };
     match chance.below(8) {
         0 => at_mode(chance, CAP),

@@ -14,8 +14,8 @@ use Rattle.judge.specs.declared.Verdict.{Verdict}
 use Rattle.judge.specs.declared.Verdict.the-variants.{Agrees, Listed, Differs}
 
 -- what the Rust did, by its number in a case, and the outcome that it is compared with: 0 a draw; 1 the tape ended; 2 to 5 its errors
--- ProbabilityTooLarge, SampleSizeTooLarge, PopulationTooLarge, InvalidProbability; 6 RejectionAcceptance was chosen; 7 a k above 31. Any
--- other number stands for nothing, and nothing here is refused by 0
+-- ProbabilityTooLarge, SampleSizeTooLarge, PopulationTooLarge, InvalidProbability; 6 it chose RejectionAcceptance, and 7 a k above 31, which are
+-- not taken. Any other number stands for nothing, and nothing here is refused by 0
 unfoldable pub rustDid : ℕ → ℕ → ℕ → Outcome ℕ
 rustDid act c u =
     cond (eqb act 0) (drawn c u)
@@ -56,8 +56,18 @@ apart r (drawn c u) (drawn d v) = cond (isOutside r d && eqb u v) (Listed 1) Dif
 apart r (drawn c u) (refused m) = Differs
 apart r (refused n) rust = byRefusal n
 
+-- a refusal in the place of what the Rust draws by a branch that is not taken: entry ten, RejectionAcceptance; entry four, a k above 31. The
+-- others are errors that the Rust has too, or a tape that ended
+abbrev pub notTaken : ℕ → Verdict
+notTaken n = cond (eqb n 6) (Listed 10) (cond (eqb n 9) (Listed 4) Agrees)
+
+-- what comes of outcomes that are the same
+abbrev pub alike : Outcome ℕ → Verdict
+alike (drawn c u) = Agrees
+alike (refused n) = notTaken n
+
 unfoldable pub judged : Request → Outcome ℕ → Outcome ℕ → Verdict
-judged r here rust = cond (same here rust) Agrees (apart r here rust)
+judged r here rust = cond (same here rust) (alike here) (apart r here rust)
 
 -- a verdict held against the entry that a case names, 0 for none: both have to say the same
 abbrev pub asMarked : ℕ → Verdict → Verdict

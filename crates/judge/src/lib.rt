@@ -6,16 +6,16 @@ use words::Draw;
 use words::number;
 ghost use mathlib.Core.Path.{_≡_};
 ghost use Rattle.words.specs.Paper.{paper, told};
-ghost use Rattle.judge.specs.Judging.{rustDid, same, outsideTray, isOutside, byRefusal, apart, judged, asMarked};
+ghost use Rattle.judge.specs.Judging.{rustDid, same, notTaken, alike, outsideTray, isOutside, byRefusal, apart, judged, asMarked};
 ghost use Rattle.judge.specs.Judging as rules;
 
-// What the Rust did: it drew, or stopped where a draw here is refused by this number.
+// What the Rust did: it drew, or, where a draw here is refused by this number, it stopped or chose a branch that is not taken.
 pub enum Said {
     Drew(Draw),
     Stopped { number: u32 },
 }
 
-// What comes of comparing: the same answer, another one that an entry of docs/DIFFERENCES.md lists, or another that none does.
+// What comes of comparing: the same answer, a difference that an entry of docs/DIFFERENCES.md lists, or one that none does.
 pub enum Verdict {
     Agrees,
     Listed { entry: u64 },
@@ -44,7 +44,7 @@ pub fn judge(request: Request, here: Answer, rust: Said) -> Verdict
     ensures { λ r. ⌜ r ≡ judged request (paper here) (rules.said rust) ⌝ }
 {
     if is_same(here, rust) {
-        Verdict::Agrees
+        judge_same(here)
     } else {
         set_apart(request, here, rust)
     }
@@ -73,7 +73,8 @@ pub fn as_marked(entry: u64, verdict: Verdict) -> Verdict
     }
 }
 
-fn is_same(here: Answer, rust: Said) -> bool
+// Whether two answers are the same: the same count from as many words, or the same refusal.
+pub fn is_same(here: Answer, rust: Said) -> bool
     ensures { λ r. ⌜ r ≡ same (paper here) (rules.said rust) ⌝ }
 {
     match here {
@@ -93,6 +94,27 @@ fn is_same_draw(drawn: Draw, drew: Draw) -> bool
     ensures { λ r. ⌜ r ≡ same (told drawn) (told drew) ⌝ }
 {
     drawn.count == drew.count && drawn.used == drew.used
+}
+
+// Answers that are the same agree, but for a refusal in the place of a draw of the Rust's that is not taken.
+fn judge_same(here: Answer) -> Verdict
+    ensures { λ r. ⌜ r ≡ alike (paper here) ⌝ }
+{
+    match here {
+        Answer::Drawn(_) => Verdict::Agrees,
+        Answer::Refused(refusal) => by_branch(number(refusal)),
+    }
+}
+
+// The refusals that stand where the Rust draws by a branch that is not taken.
+fn by_branch(refusal: u32) -> Verdict
+    ensures { λ r. ⌜ r ≡ notTaken refusal ⌝ }
+{
+    match refusal {
+        6 => Verdict::Listed { entry: 10 },
+        9 => Verdict::Listed { entry: 4 },
+        _ => Verdict::Agrees,
+    }
 }
 
 // Which entry lists answers that aren't the same.

@@ -68,11 +68,3 @@ pub(crate) fn as_said(answer: Answer) -> Said {
         },
     }
 }
-
-// Whether a draw has the answer that is due.
-pub(crate) fn is_due(request: Request, here: Answer, due: Said) -> bool {
-    match judge(request, here, due) {
-        Verdict::Agrees => true,
-        _ => false,
-    }
-}

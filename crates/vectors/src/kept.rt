@@ -1,7 +1,6 @@
 // Draws from a kept tray: one that is set up once, and drawn from many times.
 use crate::cases::Head;
 use crate::compare::compare;
-use crate::compare::is_due;
 use crate::single::hold;
 use crate::tally::KEPT;
 use crate::tally::TALLY;
@@ -10,6 +9,7 @@ use hypergeometric::Hypergeometric;
 use hypergeometric::SetUp;
 use judge::Said;
 use judge::Verdict;
+use judge::is_same;
 use kinds::Request;
 use words::Answer;
 use words::Draw;
@@ -46,7 +46,7 @@ fn draw_ready(
     let tape = [0u64];
     let here = hypergeometric::sample_from(&tape[..0], kept);
     let due = Said::Stopped { number: 10 };
-    if !is_due(request, here, due) {
+    if !is_same(here, due) {
         note(tally, KEPT, Verdict::Differs, here, b" over no word ", due);
     }
     match rust {

@@ -2,11 +2,11 @@
 use crate::cases::Head;
 use crate::compare::as_said;
 use crate::compare::compare;
-use crate::compare::is_due;
 use crate::tally::TALLY;
 use crate::tally::note;
 use judge::Verdict;
 use judge::as_marked;
+use judge::is_same;
 use kinds::Request;
 use words::Answer;
 
@@ -16,7 +16,7 @@ pub(crate) fn draw_single(head: Head, request: Request, tape: &[u64], tally: &mu
     let here = draws::draw(tape, request);
     let by_bits = as_said(here);
     let by_float = draw_by_float(tape, request, here);
-    if is_due(request, by_float, by_bits) {
+    if is_same(by_float, by_bits) {
         hold(head, request, kind, here, tally);
     } else {
         note(

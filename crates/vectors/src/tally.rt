@@ -86,8 +86,10 @@ pub(crate) fn report(tally: &[u64; TALLY]) {
     say_kind(b"standard", tally, 4);
     say_kind(b"fraction", tally, FRACTION);
     say_count(b"entry 1", tally, ENTRY + 1);
+    say_count(b"entry 4", tally, ENTRY + 4);
     say_count(b"entry 5", tally, ENTRY + 5);
     say_count(b"entry 9", tally, ENTRY + 9);
+    say_count(b"entry 10", tally, ENTRY + 10);
     say_count(b"cases", tally, 0);
     say_count(b"others", tally, OTHERS);
 }
