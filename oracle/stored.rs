@@ -64,7 +64,7 @@ pub fn standard(tape: &[u64]) -> Case {
     over_tape(&Standard, tape)
 }
 
-/// The rows of 01's table of draws that are proved too.
+/// The rows of the rules' table of draws that are proved too.
 fn proved_rows() -> Vec<Case> {
     vec![
         tray([60, 24, 7], &[0]),
@@ -91,7 +91,7 @@ fn other_rows() -> Vec<Case> {
     cases
 }
 
-/// What 01 says below its table.
+/// What the rules say below their table.
 fn sentence_below() -> Vec<Case> {
     let words = [0, HALF, THREE_QUARTERS, TOP, 0x8000_0000_dead_beef];
     let mut cases: Vec<Case> = words

@@ -249,7 +249,7 @@ static void redraw_and_strike(void) {
     expect("an empty book agrees", banlothek_redraw(tape, WORDS, book, ROOM), 0, 0, 0);
 }
 
-/* 01's book of 24 bytes, after one standard draw over the word 1. */
+/* The first worked book, after one standard draw over the word 1. */
 static void worked(void) {
     const uint8_t bytes[24] = {0x18, 0, 4, 0, 1, 0, 0, 0, 0, 0, 0, 0, 1, 0, 0, 0, 0x3f};
     const uint64_t one[] = {1};
@@ -257,6 +257,31 @@ static void worked(void) {
     expect("the worked draw", banlothek_deliver_standard_geometric(one, 1, book, 24, 1), 0, 1, 63);
     same("the worked book", bytes, book, 24);
     refused("a book of no byte is full", banlothek_deliver_geometric(one, 1, book, 0, 1, P_75), BANLOTHEK_BOOK_FULL, 0);
+}
+
+/* The second: every kind, copies and a strike; no two fields of an entry are alike but a tray's kind and used. */
+static void worked_second(void) {
+    const uint64_t words[17] = {
+        0x1000000000000000u, 0x4000000000000000u, 0xa000000000000000u, 0x0123456789abcdefu, 0x8000000000000000u, 0x0f1e2d3c4b5a6976u,
+        0x7000000000000000u, 0, 0, 0x0400000000000000u, 0xa800000000000000u, 0xe800000000000000u, 0xe000000000000000u,
+        0xd000000000000000u, 0xc800000000000000u, 0xb000000000000000u, 0x9000000000000000u};
+    const uint8_t bytes[140] = {
+        0x20, 0, 3, 0, 1, 0, 0, 0, 0, 0, 0, 0, 7, 0, 0, 0, 10, 0, 0, 0, 0, 0, 0, 0, 0, 0, 0, 0, 0, 0, 0xd0, 0x3f,
+        0x18, 0, 4, 0, 2, 0, 0, 0, 7, 0, 0, 0, 3, 0, 0, 0, 0x85, 0, 0, 0, 0, 0, 0, 0,
+        0x30, 0, 1, 0, 3, 0, 0, 0, 10, 0, 0, 0, 1, 0, 0, 0, 8, 0, 0, 0, 0, 0, 0, 0,
+        50, 0, 0, 0, 0, 0, 0, 0, 35, 0, 0, 0, 0, 0, 0, 0, 12, 0, 0, 0, 0, 0, 0, 0,
+        0x20, 0, 2, 0, 4, 0, 0, 0, 11, 0, 0, 0, 6, 0, 0, 0, 5, 0, 0, 0, 0, 0, 0, 0, 0, 0, 0, 0, 0, 0, 0xd4, 0x3f};
+    const uint64_t quarter = 0x3fd0000000000000u, three_eighths = 0x3fd8000000000000u, five_sixteenths = 0x3fd4000000000000u;
+    memset(book, 0, sizeof book);
+    expect("a geometric draw", banlothek_deliver_geometric(words, 17, book, 140, 1, quarter), 0, 7, 10);
+    expect("a standard draw", banlothek_deliver_standard_geometric(words, 17, book, 140, 2), 0, 3, 133);
+    expect("a draw to be struck", banlothek_deliver_poisson(words, 17, book, 140, 3, three_eighths), 0, 5, 4);
+    expect("a copy", banlothek_deliver_geometric(words, 17, book, 140, 1, quarter), 1, 7, 10);
+    expect("a strike", banlothek_strike(words, 17, book, 140, 1), 0, 0, 2);
+    expect("a tray over the same words", banlothek_deliver_hypergeometric(words, 17, book, 140, 3, 50, 35, 12), 0, 1, 8);
+    expect("a Poisson draw", banlothek_deliver_poisson(words, 17, book, 140, 4, five_sixteenths), 0, 6, 5);
+    expect("another copy", banlothek_deliver_standard_geometric(words, 17, book, 140, 2), 1, 3, 133);
+    same("the second worked book", bytes, book, 140);
 }
 
 int main(void) {
@@ -280,6 +305,7 @@ int main(void) {
     two_at_once();
     redraw_and_strike();
     worked();
+    worked_second();
     printf("%d of %d expectations hold\n", expectations - failures, expectations);
     return failures != 0;
 }

@@ -1,4 +1,4 @@
--- The line that answers a call of the pull service. Assumes nothing.
+-- RULES, 'Lines of pull': the line that answers a call. Assumes nothing.
 use Prim.Native.Nat.{ℕ}
 use mathlib.Core.List.{List, [], _∷_}
 use mathlib.Core.Option.{Option, none, some}

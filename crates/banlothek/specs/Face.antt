@@ -1,4 +1,4 @@
--- The fields of the struct that a caller in C gets, by what the call comes to (01, 'Refusal numbers'). Assumes nothing.
+-- RULES, 'The struct for C': its fields, by what the call comes to. Assumes nothing.
 use Prim.Native.Nat.{ℕ}
 use mathlib.Core.Path.{_≡_}
 use mathlib.Core.List.{List}

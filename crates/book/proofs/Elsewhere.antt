@@ -1,4 +1,4 @@
--- 'No byte outside its entry changes' and 'nothing else changes' (01, 'The book'), byte by byte: what a delivery and a strike leave.
+-- 'No byte outside its entry changes' and 'nothing else changes' (RULES, 'The book'), byte by byte: what a delivery and a strike leave.
 -- Assumes nothing.
 use mathlib.Core.Path.{_≡_, refl, sym, ap, _∙_}
 use mathlib.Core.List.{List, [], _∷_}

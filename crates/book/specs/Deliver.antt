@@ -1,4 +1,4 @@
--- 01, 'The book', Deliver, and 'Refusal numbers': order 1, 11, 12, 13, then copy or 14, parameters, 15, and those of a tape that is too
+-- RULES, 'The book', Deliver, and 'Refusals': order 1, 11, 12, 13, then copy or 14, parameters, 15, and those of a tape that is too
 -- short. Assumes nothing.
 use Prim.Native.Nat.{ℕ, _+_, _-_}
 use mathlib.Core.Bool.{Bool, cond, not, _&&_, _||_}
@@ -96,7 +96,7 @@ deliverTo ws b es s r = delivering (given (deliverRefusals ws b es s r) (deliver
 unfoldable pub deliver : List ℕ → List ℕ → ℕ → Request → Call Booking
 deliver ws b s r = deliverTo ws b (booked ws b) s r
 
--- the enum in the paper's terms; nothing is lost (`one-delivered`)
+-- the enum in the rules' terms; nothing is lost (`one-delivered`)
 abbrev pub delivered : Delivered → Outcome Booking
 delivered (Fresh d) = drawn (fresh (d .count)) (d .used)
 delivered (Copy d) = drawn (copy (d .count)) (d .used)

@@ -1,4 +1,4 @@
--- 01, 'The book', Strike, and 'Refusal numbers': order 1, 11, 12, 16. Assumes nothing.
+-- RULES, 'The book', Strike, and 'Refusals': order 1, 11, 12, 16. Assumes nothing.
 use Prim.Native.Nat.{ℕ, _-_}
 use mathlib.Core.List.{List, [], _∷_, _++_}
 use mathlib.Core.Path.{_≡_}
@@ -37,7 +37,7 @@ strikeIn ws b es j = striking (given (strikeRefusals ws b es j) (drawn (length e
 unfoldable pub strike : List ℕ → List ℕ → ℕ → Call ℕ
 strike ws b j = strikeIn ws b (booked ws b) j
 
--- the enum in the paper's terms; nothing is lost (`one-struck`)
+-- the enum in the rules' terms; nothing is lost (`one-struck`)
 abbrev pub struck : Struck → Outcome ℕ
 struck (Left n) = drawn n 0
 struck (Refused x) = refused (numberOf x)

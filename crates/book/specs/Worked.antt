@@ -1,4 +1,4 @@
--- 01, 'Draws on both sides of each edge': the worked book. One standard draw over the word 1 leaves these 24 bytes. Assumes nothing.
+-- RULES, 'Worked books', the first. One standard draw over the word 1 leaves these 24 bytes. Assumes nothing.
 use Prim.Native.Nat.{ℕ}
 use mathlib.Core.List.{List, [], _∷_}
 use mathlib.Core.Path.{_≡_}

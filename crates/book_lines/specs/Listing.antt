@@ -1,4 +1,4 @@
--- 01, 'Draws on both sides of each edge', the listing program: all that it writes of the bytes that it reads. Assumes nothing.
+-- RULES, 'The listing': all that is written of the bytes that are read. Assumes nothing.
 use Prim.Native.Nat.{ℕ}
 use mathlib.Core.List.{List, [], _∷_, _++_}
 use lib.ListN.{length}

@@ -1,4 +1,4 @@
--- 01, 'The book': all numbers little-endian. Once for every width. Assumes nothing.
+-- RULES, 'The book': every number little-endian. Once for every width. Assumes nothing.
 use Prim.Native.Nat.{ℕ, zero, suc, _+_, _*_, _/_, _%_}
 use mathlib.Core.List.{List, [], _∷_}
 use lib.ListN.{getD, drop}

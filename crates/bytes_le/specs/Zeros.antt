@@ -1,4 +1,4 @@
--- 01, 'The book': zero bytes, those after the end and those that a strike leaves. Assumes nothing.
+-- RULES, 'The book': zero bytes, those after the end and those that a strike leaves. Assumes nothing.
 use Prim.Native.Nat.{ℕ, _-_}
 use mathlib.Core.Bool.{Bool, true, _&&_}
 use mathlib.Core.List.{List, [], _∷_, _++_}

@@ -1,4 +1,4 @@
--- Four dead programs (01, 'Promises that a dead program can't keep'), against the contract at the worked book: a standard draw over the
+-- Four dead programs (RULES, 'Dead programs'), against the contract at the worked book: a standard draw over the
 -- word 1 into 24 zero bytes, and a second one after it. Assumes nothing.
 use mathlib.Core.Path.{_≡_, ap, _∙_}
 use mathlib.Core.List.{List, [], _∷_, _++_}

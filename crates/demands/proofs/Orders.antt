@@ -1,4 +1,4 @@
--- The orders in 01's digits, each by computing. Assumes nothing.
+-- The orders in digits, each by computing. Assumes nothing.
 use mathlib.Core.List.{List}
 use mathlib.Core.Path.{_≡_, refl}
 use Prim.Native.Nat.{ℕ}

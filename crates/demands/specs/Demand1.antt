@@ -1,4 +1,4 @@
--- Demand 1: a refusal carries count 0 and 0 words used and changes no byte lent. Each part speaks of whatever its call's contract allows.
+-- RULES, 'Demands', 1: a refusal carries count 0 and 0 words used and changes no byte lent. Each part speaks of whatever its call's contract allows.
 -- (That a call ends is what the checker shows of every function; that every entry point takes any parameters, words and bytes is shown by
 -- the crate heads, which calls each of them with nothing to show first.) Assumes nothing.
 use Prim.Native.Nat.{ℕ}

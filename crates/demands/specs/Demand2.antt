@@ -1,4 +1,4 @@
--- Demand 2 for set-ups, deliveries, strikes and redraws (for draws: `Demand2` of the crate draws, which is part of it): the answer is the
+-- RULES, 'Demands', 2, for set-ups, deliveries, strikes and redraws (for draws: `Demand2` of the crate draws, which is part of it): the answer is the
 -- rules', each refusal is given exactly on its condition and none earlier, and one answer and one content of the book are possible. Each part
 -- speaks of whatever its call's contract allows. Assumes nothing.
 use Prim.Native.Nat.{ℕ, _-_}

@@ -1,4 +1,4 @@
--- Demand 3: from an all-zero book and one unchanging tape, after any sequence of deliveries and strikes, copies and refusals included, the
+-- RULES, 'Demands', 3: from an all-zero book and one unchanging tape, after any sequence of deliveries and strikes, copies and refusals included, the
 -- book is to the byte what an equal-sized empty book holds after each booking not struck is delivered once, in serial order. Assumes nothing.
 use Prim.Native.Nat.{ℕ, _+_, _-_, _≤_}
 use mathlib.Core.List.{List, [], _∷_, _++_}

@@ -1,4 +1,4 @@
--- The orders of the refusals in 01's digits ('Refusal numbers'), of every call. Assumes nothing.
+-- RULES, 'Refusals': the orders in digits, of every call. Assumes nothing.
 use Prim.Native.Nat.{ℕ}
 use mathlib.Core.List.{List, [], _∷_, map}
 use mathlib.Core.Path.{_≡_}

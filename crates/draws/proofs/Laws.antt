@@ -33,7 +33,7 @@ module _ (r : Request) where
   pub request-exactly : (ws : List ℕ) (n : ℕ) → (drawOf r ws ≡ refused n) ↔ First n (conditions (drawing r) ws)
   request-exactly = lawful-exactly (drawing r) (Supported r) (lawful r)
 
-  -- Exhausted in 01's words: the draw is refused by a number for a tape that is too short exactly when nothing is refused before a word is
+  -- Exhausted in the rules' words: the draw is refused by a number for a tape that is too short exactly when nothing is refused before a word is
   -- read and the rules call for a word past the end: over whatever longer tape it draws, it uses more words than this one has.
   pub request-short : (ws : List ℕ) → RefusedShort (drawing r) ws ↔ WantsMore (drawing r) ws
   request-short = lawful-short (drawing r) (Supported r) (lawful r)

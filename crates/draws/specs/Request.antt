@@ -1,4 +1,4 @@
--- The draw of one request of any kind (01, 'The book', the table of kinds). Assumes nothing.
+-- The draw of one request of any kind (RULES, 'The book', the table of kinds). Assumes nothing.
 use Prim.Native.Nat.{ℕ}
 use mathlib.Core.List.{List}
 use lib.Ieee.{binary64, ofBits}

@@ -1,4 +1,4 @@
--- 01, 'Draws on both sides of each edge': the rows marked P. Assumes nothing.
+-- RULES, 'Draws to check by': the rows with a P. Assumes nothing.
 use Prim.Native.Nat.{ℕ, _+_, _-_, _*_, _^_}
 use mathlib.Core.List.{List, [], _∷_, map}
 use mathlib.Core.Path.{_≡_}

@@ -1,4 +1,4 @@
--- 01, 'The book': an entry and its bytes. Assumes nothing.
+-- RULES, 'The book': an entry and its bytes. Assumes nothing.
 use Prim.Native.Nat.{ℕ, _+_}
 use mathlib.Core.List.{List, [], _∷_, _++_}
 use mathlib.Core.Option.{Option, Option·map}
@@ -9,7 +9,7 @@ use Rattle.kinds.specs.declared.Request.the-variants.{StandardGeometric}
 use Rattle.kinds.specs.Kinds.{fixedLength, kindOf, parametersIn, kindNumber, parametersOf, lengthOf, requestOf}
 use Rattle.entry.specs.declared.Entry.{Entry}
 
--- a booking: what was asked for, its serial, the tape's place before the draw (01's `at`), the words used and the count
+-- a booking: what was asked for, its serial, the tape's place before the draw (`at`), the words used and the count
 abbrev pub booking : Request → ℕ → ℕ → ℕ → ℕ → Entry
 booking r s p u c = record { request = r; serial = s; place = p; used = u; count = c }
 

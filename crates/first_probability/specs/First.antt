@@ -1,4 +1,4 @@
--- 01, module 5: the first probability, its float steps in the Rust's order. Assumes nothing.
+-- RULES, 'The inversion': the first probability, its float steps in their order, which is the Rust's. Assumes nothing.
 use Prim.Native.Nat.{ℕ, zero, suc, _+_, _-_, min, max}
 use mathlib.Core.Bool.{cond}
 use lib.Dec.{leb, ltb}

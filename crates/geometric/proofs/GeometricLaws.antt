@@ -1,4 +1,4 @@
--- Laws of the geometric draw: what 01 says of module 3 beside the rules themselves. Assumes nothing.
+-- Laws of the geometric draw: what is promised of it beside the rules themselves. Assumes nothing.
 use mathlib.Core.Path.{_≡_, refl, sym, ap, ap₂, _∙_, subst}
 use mathlib.Core.Bool.{Bool, true, false, _&&_, true≢false, cond, and-eq-true-iff}
 use mathlib.Core.List.{List, []}
@@ -78,7 +78,7 @@ module _ (bits : ℕ) where
 -- ---- p ≥ 2/3
 
 module _ (p : Float) (ws : List ℕ) where
-  -- 01's words: the count is the number of fractions above p before the first that is at most p; used is count + 1
+  -- the rules' words: the count is the number of fractions above p before the first that is at most p; used is count + 1
   pub record Failures (c u : ℕ) : Type 0 where
     pub used : u ≡ c + 1
     pub above : (i : ℕ) → i < c → le (fractionOf (getD ws i 0)) p ≡ false
@@ -130,7 +130,7 @@ module _ (q : Float) (span : ℕ) (pi : Float) (ws : List ℕ) where
     pub stop : isBelow d ≡ false
     pub rejected : (j : ℕ) → j < t → isAccepted d j ≡ false
 
-  -- 01's words: the count is d × 2^k + m, and used is d + 1 + 2 × tries, where the last try is the first that was accepted
+  -- the rules' words: the count is d × 2^k + m, and used is d + 1 + 2 × tries, where the last try is the first that was accepted
   pub record Searched (c u : ℕ) : Type 0 where
     pub d : ℕ
     pub before : ℕ
@@ -212,7 +212,7 @@ module _ (q : Float) (span : ℕ) (pi : Float) (ws : List ℕ) where
 -- ---- any p
 
 module _ (p : Float) (ws : List ℕ) where
-  -- 01's three ways to a count
+  -- the rules' three ways to a count
   pub data Drew (c u : ℕ) : Type 0 where
     trivially : isLarge p ≡ true → Failures p ws c u → Drew c u
     never : isLarge p ≡ false → isNever p ≡ true → c ≡ 2 ^ 64 - 1 → u ≡ 0 → Drew c u

@@ -1,4 +1,4 @@
--- 01, module 3: Geometric. Assumes nothing.
+-- RULES, 'Geometric'. Assumes nothing.
 use Prim.Native.Nat.{ℕ, _+_, _-_, _^_}
 use mathlib.Core.Bool.{Bool, not, _&&_, cond}
 use mathlib.Core.List.{List, [], _∷_}

@@ -1,4 +1,4 @@
--- Laws of the hypergeometric draw: what 01 says of modules 4 and 5 beside the rules themselves. Assumes nothing.
+-- Laws of the hypergeometric draw: what is promised of it beside the rules themselves. Assumes nothing.
 use mathlib.Core.Path.{_≡_, refl, sym, ap, subst}
 use mathlib.Core.List.{List, []}
 use mathlib.Core.Logic.{_↔_}

@@ -1,4 +1,4 @@
--- Below the cap the whole-number test agrees with the Rust's float test (01, module 5), both ways, of the rounded floats.
+-- Below the cap the whole-number test agrees with the Rust's float test (RULES, 'The inversion', refusal 6), both ways, of the rounded floats.
 -- A is (k+1)(n1+1), and B is N+2. Both are exact, A / B stays on its side of 10 when it is rounded, and so does its whole part. Assumes nothing.
 use mathlib.Core.Path.{_≡_, refl, sym, ap, _∙_}
 use mathlib.Core.Bool.{Bool, true, false, cond, true≢false, false≢true}

@@ -1,4 +1,4 @@
--- Laws of the reduction (01, module 4), for K ≤ N and n ≤ N: the sizes of its numbers, and that offset + sign·x carries 0..min(n1, k)
+-- Laws of the reduction (RULES, 'The reduction'), for K ≤ N and n ≤ N: the sizes of its numbers, and that offset + sign·x carries 0..min(n1, k)
 -- one-to-one onto the support. Assumes nothing.
 use mathlib.Core.Path.{_≡_, refl}
 use mathlib.Core.Bool.{Bool, true, false, cond}

@@ -1,5 +1,5 @@
 -- The first probability has no minus sign and is no NaN: every step multiplies or divides by a whole number from 1 on. So the Rust's
--- `initial_p <= 0.0` and 01's 'zero' are one test. Assumes nothing.
+-- `initial_p <= 0.0` and the rules' 'is 0' are one test. Assumes nothing.
 use mathlib.Core.Path.{_≡_, refl}
 use mathlib.Core.Bool.{Bool, true, false, cond}
 use Prim.Native.Nat.{ℕ, zero, suc, _+_, _-_, _*_, _^_, _≤_, _<_, min, max}

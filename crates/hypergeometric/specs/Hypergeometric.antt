@@ -1,4 +1,4 @@
--- 01, modules 4 and 5 together: the draw of a tray that the set-up accepts. Assumes nothing.
+-- RULES, 'The reduction' and 'The inversion' together: the draw of a tray that the set-up accepts. Assumes nothing.
 use Prim.Native.Nat.{ℕ}
 use mathlib.Core.List.{[]}
 use Rattle.words.specs.Words.{fractionOf}

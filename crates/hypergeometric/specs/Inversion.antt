@@ -1,4 +1,4 @@
--- 01, module 5: the inversion, step for step. Assumes nothing.
+-- RULES, 'The inversion': the draw, step for step. Assumes nothing.
 use Prim.Native.Nat.{ℕ, zero, suc, _+_, _-_, _*_, min}
 use mathlib.Core.Bool.{Bool, true, false}
 use lib.Ieee.{Float, binary64, sub, mul, div, lt}

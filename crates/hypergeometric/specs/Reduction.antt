@@ -1,4 +1,4 @@
--- 01, module 4: the reduction of a population of N, K of them marked, and a sample of n, for K ≤ N and n ≤ N. Assumes nothing.
+-- RULES, 'The reduction' of a population of N, K of them marked, and a sample of n, for K ≤ N and n ≤ N. Assumes nothing.
 use Prim.Native.Nat.{ℕ, _+_, _-_, _/_, _≤_, min}
 use mathlib.Core.Bool.{cond}
 use lib.Dec.{leb, ltb}

@@ -1,4 +1,4 @@
--- What the Rust asks where 01, module 5, asks (k+1)(n1+1) < 10(N+2), and whether the first probability is zero or not finite: tests of
+-- What the Rust asks where RULES, 'The inversion', asks (k+1)(n1+1) < 10(N+2), and whether the first probability is zero or not finite: tests of
 -- floats, each operation rounded once. No contract speaks of them; the laws `taken-agrees` and `first-agrees` compare. Assumes nothing.
 use Prim.Native.Nat.{ℕ, _+_, _-_, _*_, _/_}
 use mathlib.Core.Bool.{Bool, true, false, not, _||_, cond}

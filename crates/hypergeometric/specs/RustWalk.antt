@@ -1,4 +1,4 @@
--- What the Rust's inversion does where the rules end it at min(n1, k) (RULES, 'Hypergeometric inversion'; DIFFERENCES, entry one): it goes on
+-- What the Rust's inversion does where the rules end it at min(n1, k) (RULES, 'The inversion'; DIFFERENCES, entry one): it goes on
 -- to k, in numbers that may be below 0, and casts what it lands on to 64 bits. No contract speaks of it; `entry-one` compares. Assumes nothing.
 use Prim.Native.Nat.{ℕ, zero, suc, _+_, _-_, _^_, _≤_, _<_, min}
 use mathlib.Core.Bool.{Bool, true, false}

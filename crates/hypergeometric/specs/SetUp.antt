@@ -1,4 +1,4 @@
--- 01, modules 4 and 5: the set-up record, and the refusals of a tray's parameters. Assumes nothing.
+-- RULES, 'The reduction' and 'The inversion': the set-up record, and the refusals of a tray's parameters. Assumes nothing.
 use Prim.Native.Nat.{ℕ, _+_, _*_}
 use mathlib.Core.Bool.{Bool, not, _||_}
 use mathlib.Core.List.{List, [], _∷_}
@@ -47,12 +47,12 @@ trayRefusals N K n =
 unfoldable pub settled : ℕ → ℕ → ℕ → Outcome Hypergeometric
 settled N K n = given (trayRefusals N K n) (drawn (setUp N K n) 0)
 
--- the set-up's answer in the paper's terms; nothing is lost (`one-set-up`)
+-- the set-up's answer in the rules' terms; nothing is lost (`one-set-up`)
 abbrev pub setUpPaper : SetUp → Outcome Hypergeometric
 setUpPaper (Ready h) = drawn h 0
 setUpPaper (Refused x) = refused (numberOf x)
 
--- The contract of the set-up: its answer a is, in the paper's terms, what the set-up comes to.
+-- The contract of the set-up: its answer a is, in the rules' terms, what the set-up comes to.
 abbrev pub SetUpAllows : ℕ → ℕ → ℕ → SetUp → Type 0
 SetUpAllows N K n a = setUpPaper a ≡ settled N K n
 

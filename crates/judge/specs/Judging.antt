@@ -1,5 +1,5 @@
--- When a draw here and the Rust's draw over the same words agree, and which entry of docs/DIFFERENCES.md has one that doesn't (demand 2;
--- 01, 'What the line takes from the crate'). Assumes nothing.
+-- When a draw here and the Rust's draw over the same words agree, and which entry of docs/DIFFERENCES.md has one that doesn't (RULES,
+-- 'Against the Rust'). Assumes nothing.
 use Prim.Native.Nat.{ℕ}
 use mathlib.Core.Bool.{Bool, false, cond, not, _&&_}
 use lib.Dec.{eqb, leb}

@@ -1,4 +1,4 @@
--- DIFFERENCES, entry one, as a statement: of every accepted tray and every word, the Rust's count is the count here, or entry one lists it.
+-- RULES, 'Against the Rust'; DIFFERENCES, entry one, as a statement: of every accepted tray and every word, the Rust's count is the count here, or entry one lists it.
 -- Assumes nothing.
 use Prim.Native.Nat.{ℕ, min}
 use mathlib.Core.Bool.{cond}

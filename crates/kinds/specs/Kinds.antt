@@ -1,4 +1,4 @@
--- 01, 'The book': the table of kinds, and what a request is. Assumes nothing.
+-- RULES, 'The book': the table of kinds, and what a request is. Assumes nothing.
 use Prim.Native.Nat.{ℕ, _^_, _<_}
 use mathlib.Core.Bool.{Bool, cond, _&&_}
 use mathlib.Core.List.{List, [], _∷_}

@@ -1,4 +1,4 @@
--- `decode` gives entries exactly of the books that are sound by the five clauses (01, 'The book'). Assumes nothing.
+-- `decode` gives entries exactly of the books that are sound by the five clauses (RULES, 'The book'). Assumes nothing.
 use mathlib.Core.Path.{_≡_, refl, sym, ap, _∙_}
 use mathlib.Core.Bool.{true, or-true}
 use mathlib.Core.List.{List, [], _∷_}

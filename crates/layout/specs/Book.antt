@@ -1,4 +1,4 @@
--- 01, 'The book': a book's entries, written and read. Assumes nothing.
+-- RULES, 'The book': a book's entries, written and read. Assumes nothing.
 use Prim.Native.Nat.{ℕ, zero, suc, _+_, _-_}
 use mathlib.Core.Bool.{Bool, true, false, cond, _&&_, _||_}
 use mathlib.Core.List.{List, [], _∷_, _++_}

@@ -1,4 +1,4 @@
--- 01, 'The book': which bytes are a sound book, in its five clauses. Assumes nothing.
+-- RULES, 'The book', Sound: which bytes are a sound book, in its five clauses. Assumes nothing.
 use Prim.Native.Nat.{ℕ, zero, suc, _+_, _≤_, _<_}
 use mathlib.Core.List.{List}
 use mathlib.Core.Logic.{_⊎_}

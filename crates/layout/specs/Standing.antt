@@ -1,4 +1,4 @@
--- How a book stands (01, 'The book'): the number of entries, the end's offset and the tape's place. Assumes nothing.
+-- How a book stands (RULES, 'The book'): the number of entries, the end's offset and the tape's place. Assumes nothing.
 use Prim.Native.Nat.{ℕ}
 use mathlib.Core.List.{List}
 use lib.ListN.{length}

@@ -1,4 +1,4 @@
--- A line of text: its words, parted by one space, and a newline. Assumes nothing.
+-- RULES, 'Text': a line, its words, parted by one space, and a newline. Assumes nothing.
 use Prim.Native.Nat.{ℕ}
 use mathlib.Core.List.{List, [], _∷_, _++_}
 use Rattle.writing.specs.Digits.{decimal}

@@ -1,4 +1,4 @@
--- Whole numbers as text, in ASCII, as they are read: with leading zeros or without. Assumes nothing.
+-- RULES, 'Lines of pull': whole numbers as text, in ASCII, as they are read, with leading zeros or without. Assumes nothing.
 use Prim.Native.Nat.{ℕ, _+_, _-_, _*_}
 use mathlib.Core.Bool.{Bool, true, false, cond, _&&_}
 use mathlib.Core.List.{List, [], _∷_}

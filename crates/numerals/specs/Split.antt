@@ -1,4 +1,4 @@
--- Text parted by a byte: what stands before the first such byte, and what stands after it. Once for every byte, a space or a point.
+-- RULES, 'Lines of pull': text parted by a byte, what stands before the first such byte, and what stands after it. Once for every byte, a space or a point.
 -- Assumes nothing.
 use Prim.Native.Nat.{ℕ, suc}
 use mathlib.Core.Bool.{Bool}

@@ -1,4 +1,4 @@
--- Refusal 12 in 01's five clauses ('The book'): bytes are a damaged book exactly when they are not a sound one. Assumes nothing.
+-- Refusal 12 in the five clauses of RULES, 'The book': bytes are a damaged book exactly when they are not a sound one. Assumes nothing.
 use mathlib.Core.Path.{_≡_, refl, sym, ap, _∙_}
 use mathlib.Core.Bool.{true, true≢false}
 use mathlib.Core.List.{List}

@@ -1,4 +1,4 @@
--- 01, 'The book' and 'Refusal numbers': what every call on a book begins with. Assumes nothing.
+-- RULES, 'The book' and 'Refusals': what every call on a book begins with. Assumes nothing.
 use Prim.Native.Nat.{ℕ}
 use mathlib.Core.Bool.{Bool}
 use mathlib.Core.List.{List, [], _∷_}

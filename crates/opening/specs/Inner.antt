@@ -19,7 +19,7 @@ IsOpen ws b st = NoneHolds (limits ws b) × (standing (booked ws b) ≡ st)
 unfoldable pub opened : List ℕ → List ℕ → Outcome Standing
 opened ws b = given (limits ws b) (drawn (standing (booked ws b)) 0)
 
--- the enum in the paper's terms
+-- the enum in the rules' terms
 abbrev pub openedAs : Opened → Outcome Standing
 openedAs (Sound st) = drawn st 0
 openedAs (Refused x) = refused (numberOf x)

@@ -1,4 +1,4 @@
--- Laws of the Poisson draw: what 01 says of module 2 beside the rule itself. Assumes nothing.
+-- Laws of the Poisson draw: what is promised of it beside the rule itself. Assumes nothing.
 use mathlib.Core.Path.{_≡_, refl, sym, ap, ap₂, _∙_}
 use mathlib.Core.Bool.{true, false}
 use mathlib.Core.List.{List, []}

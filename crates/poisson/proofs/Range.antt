@@ -1,4 +1,4 @@
--- The range of a threshold (01, module 2): its ends, and the bits of the floats in it. Assumes nothing.
+-- The range of a threshold (RULES, 'Poisson'): its ends, and the bits of the floats in it. Assumes nothing.
 use mathlib.Core.Path.{_≡_, refl, _∙_}
 use mathlib.Core.Bool.{true, false, _&&_, and-eq-true-iff}
 use Prim.Native.Nat.{ℕ, _^_, _≤_, _<_}

@@ -1,4 +1,4 @@
--- The threshold e^-lambda of every lambda between 0 and 12 is in the range (01, module 2). Proved of fractions: e is what the sums of 1 / i!
+-- The threshold e^-lambda of every lambda between 0 and 12 is in the range (RULES, 'Poisson'). Proved of fractions: e is what the sums of 1 / i!
 -- grow to, so e^-12 is what the fractions (1 / sum)^12 fall to, and every fraction from any of these up to 1, rounded, is in the range
 -- (`twelve-inside`). Not proved, since no real number has a definition here: that a fraction above e^-12 is above one of these, that e^-lambda
 -- lies between e^-12 and 1, and that a real number between two fractions is rounded to a float between theirs. Assumes nothing.

@@ -1,4 +1,4 @@
--- 01, module 2: KnuthMethod, with the threshold handed in. Assumes nothing.
+-- RULES, 'Poisson': Knuth's method, with the threshold handed in. Assumes nothing.
 use Prim.Native.Nat.{ℕ, _+_, _^_}
 use mathlib.Core.Bool.{Bool, not, _&&_, cond}
 use mathlib.Core.List.{List, [], _∷_}

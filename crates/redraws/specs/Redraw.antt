@@ -1,4 +1,4 @@
--- 01, 'The book', Redraw, and 'Refusal numbers': order 1, 11, 12, 17. The book is never changed. Assumes nothing.
+-- RULES, 'The book', Redraw, and 'Refusals': order 1, 11, 12, 17. The book is never changed. Assumes nothing.
 use Prim.Native.Nat.{ℕ}
 use mathlib.Core.Bool.{Bool, false, cond, not, _&&_}
 use mathlib.Core.List.{List, [], _∷_, _++_}
@@ -50,7 +50,7 @@ redrawOf ws b es = naming (given (redrawRefusals ws b es) (drawn (length es) 0))
 unfoldable pub redraw : List ℕ → List ℕ → Redrawing
 redraw ws b = redrawOf ws b (booked ws b)
 
--- the enum in the paper's terms: 17 names its serial; nothing is lost (`one-redrawn`)
+-- the enum in the rules' terms: 17 names its serial; nothing is lost (`one-redrawn`)
 abbrev pub redrawn : Redrawn → Redrawing
 redrawn (Agrees n) = record { outcome = drawn n 0; named = none }
 redrawn (Differs s) = record { outcome = refused 17; named = some s }

@@ -1,4 +1,4 @@
--- Which lines are read, and as what. Assumes nothing.
+-- RULES, 'Lines of pull': which lines are read, and as what. Assumes nothing.
 use Prim.Native.Nat.{ℕ, _-_, _^_}
 use mathlib.Core.Bool.{Bool, cond, _&&_, _||_}
 use mathlib.Core.List.{List, [], _∷_}

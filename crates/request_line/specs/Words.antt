@@ -1,4 +1,4 @@
--- A request line's words: they are parted by one space. Assumes nothing.
+-- RULES, 'Lines of pull': a line's words, parted at its spaces. Assumes nothing.
 use Prim.Native.Nat.{ℕ, zero, suc, _+_}
 use mathlib.Core.Bool.{Bool, true, false, cond, _&&_}
 use mathlib.Core.List.{List, [], _∷_}

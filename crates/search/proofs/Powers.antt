@@ -1,4 +1,4 @@
--- The power's steps are 01's: r becomes r·a where b is odd (`oddTimes`); where the halved b is 0 the answer is r, else a becomes a·a and
+-- The power's steps are the rules': r becomes r·a where b is odd (`oddTimes`); where the halved b is 0 the answer is r, else a becomes a·a and
 -- all is repeated. So the bound on the repeats in `halved` decides nothing. Assumes nothing.
 use mathlib.Core.Path.{_≡_, refl, sym, _∙_}
 use Prim.Native.Nat.{ℕ, zero, suc, _/_, _≤_, _<_}

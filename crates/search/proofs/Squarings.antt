@@ -28,7 +28,7 @@ unfoldable pub squared : ℕ → Float → Float
 squared zero q = q
 squared (suc n) q = mul binary64 (squared n q) (squared n q)
 
--- 01's words: k is the number of squarings, at least 1, until the result pi is no longer above 0.5; 31 are the most, and only 31 may
+-- the rules' words: k is the number of squarings, at least 1, until the result pi is no longer above 0.5; 31 are the most, and only 31 may
 -- leave it above.
 pub record Least (q : Float) (s : Squares) : Type 0 where
   pub once : 1 ≤ s .k

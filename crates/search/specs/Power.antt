@@ -1,4 +1,4 @@
--- 01, module 3: q^m, one multiplication after the other in a fixed order. Assumes nothing.
+-- RULES, 'Geometric': q^m, one multiplication after the other in a fixed order. Assumes nothing.
 use Prim.Native.Nat.{ℕ, zero, suc, _/_, _%_}
 use mathlib.Core.Bool.{cond}
 use lib.Dec.{eqb}

@@ -1,4 +1,4 @@
--- 01, module 3: q squared again and again. Assumes nothing.
+-- RULES, 'Geometric', the third way: q squared again and again. Assumes nothing.
 use Prim.Native.Nat.{ℕ, zero, suc}
 use mathlib.Core.Bool.{Bool, true, false}
 use lib.Ieee.{Float, binary64, mul, lt}

@@ -1,4 +1,4 @@
--- Laws of the standard geometric draw: what 01 says of module 1 beside the rule itself. Assumes nothing.
+-- Laws of the standard geometric draw: what is promised of it beside the rule itself. Assumes nothing.
 use mathlib.Core.Path.{_≡_, refl, ap, _∙_}
 use mathlib.Core.Bool.{true, false}
 use mathlib.Core.List.{List, []}
@@ -27,7 +27,7 @@ use Rattle.standard_geometric.proofs.Zeros.{zeros-fewer}
 use Rattle.standard_geometric.specs.Standard.{standardRule, standardGeometric}
 
 module _ (ws : List ℕ) where
-  -- 01's words: every word before the last is 0, the last is not, and the count is 64 × (used - 1) plus the last word's leading zeros
+  -- the rules' words: every word before the last is 0, the last is not, and the count is 64 × (used - 1) plus the last word's leading zeros
   pub record Zeros (c u : ℕ) : Type 0 where
     pub some : 1 ≤ u
     pub before : (i : ℕ) → i < u - 1 → getD ws i 0 ≡ 0

@@ -1,4 +1,4 @@
--- 01, module 1: StandardGeometric. Assumes nothing.
+-- RULES, 'Standard geometric'. Assumes nothing.
 use Prim.Native.Nat.{ℕ, _+_}
 use mathlib.Core.Bool.{cond}
 use mathlib.Core.List.{[]}

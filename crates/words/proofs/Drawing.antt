@@ -19,7 +19,7 @@ module _ {A : Type 0} (d : Drawing A) (ws : List ℕ) where
   abbrev o : Outcome A
   o = d .reads ws
 
-  -- The order for a draw (01, 'Refusal numbers'): 1 is given before any parameter is looked at, and a parameter's refusal before any word
+  -- The order for a draw (RULES, 'Refusals'): 1 is given before any parameter is looked at, and a parameter's refusal before any word
   -- is read.
   pub limit-first : tooLong ws ≡ true → draw d ws ≡ refused 1
   unfolding draw

@@ -1,4 +1,4 @@
--- A refusal is given exactly when its condition holds and none earlier does (01, 'Refusal numbers'): once, over any list of conditions.
+-- A refusal is given exactly when its condition holds and none earlier does (RULES, 'Refusals'): once, over any list of conditions.
 -- Assumes nothing.
 use mathlib.Core.Path.{_≡_, refl, sym, ap, _∙_, subst}
 use mathlib.Core.Bool.{Bool, true, false, cond}

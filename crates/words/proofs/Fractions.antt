@@ -1,4 +1,4 @@
--- A fraction is floor(w / 2048) / 2^53 to the last bit, at least 0 and at most 1 - 2^-53 (01, 'Words and fractions'). Assumes nothing.
+-- A fraction is floor(w / 2048) / 2^53 to the last bit, at least 0 and at most 1 - 2^-53 (RULES, 'Words and fractions'). Assumes nothing.
 use mathlib.Core.Path.{sym}
 use mathlib.Core.Bool.{false, not}
 use Prim.Native.Nat.{ℕ, suc, _+_, _-_, _*_, _/_, _^_, _≤_, _<_, zero-le}

@@ -74,7 +74,7 @@ module _ (d : Drawing ℕ) (S : ℕ → Type 0) (l : Lawful d S) (ws : List ℕ)
             calls = short-exactly (d .reads) (l .local) (l .within) ws .0 (n, first-ended shorts (d .reads ws) n (x .1) .1);
           }
 
-  -- Exhausted in the paper's words: exactly when the rules call for a word past the end.
+  -- Exhausted in the rules' words: exactly when the rules call for a word past the end.
   pub lawful-short : RefusedShort d ws ↔ WantsMore d ws
   lawful-short = (
     λ x. wants (x .0) (x .1 .0) (lawful-exactly (x .0) .0 (x .1 .1)),

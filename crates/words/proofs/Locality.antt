@@ -1,4 +1,4 @@
--- An accepted draw looks at the words that it reports as used and at no others (01, 'Words and fractions'): once, for every rule. Assumes nothing.
+-- An accepted draw looks at the words that it reports as used and at no others (RULES, 'Words and fractions'): once, for every rule. Assumes nothing.
 use mathlib.Core.Path.{_≡_, refl, sym, _∙_, subst}
 use mathlib.Core.Bool.{Bool, true, false, cond}
 use mathlib.Core.List.{List, [], _∷_}

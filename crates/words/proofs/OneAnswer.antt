@@ -1,4 +1,4 @@
--- The paper's reading of an answer loses nothing: equal readings, equal answers. So a contract `paper r ≡ ..` leaves one answer. Assumes nothing.
+-- The rules' reading of an answer loses nothing: equal readings, equal answers. So a contract `paper r ≡ ..` leaves one answer. Assumes nothing.
 use mathlib.Core.Path.{_≡_, refl, sym, ap, _∙_}
 use mathlib.Core.List.{List, [], _∷_}
 use Prim.Native.Nat.{ℕ}

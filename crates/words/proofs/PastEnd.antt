@@ -1,4 +1,4 @@
--- Exhausted in the paper's words (01, 'Words and fractions'): a reading is refused exactly when it calls for a word past the end; and where
+-- Exhausted in the words of RULES, 'Words and fractions': a reading is refused exactly when it calls for a word past the end; and where
 -- every state can end, there is a longer tape over which it draws. Once, for every reading. Assumes nothing.
 use mathlib.Core.Path.{_≡_, refl, sym, ap, _∙_}
 use mathlib.Core.Bool.{Bool, true, false, cond}

@@ -1,4 +1,4 @@
--- 01, 'Refusal numbers': the order for a draw, 1, then the parameters' refusals, then those of a tape that is too short. Assumes nothing.
+-- RULES, 'Refusals': the order for a draw, 1, then the parameters' refusals, then those of a tape that is too short. Assumes nothing.
 use Prim.Native.Nat.{ℕ}
 use mathlib.Core.Bool.{Bool, false}
 use mathlib.Core.List.{List, [], _∷_, _++_}
@@ -37,6 +37,6 @@ conditions d ws = 1 on tooLong ws ∷ d .refusals ++ endings shorts (d .reads ws
 unfoldable pub draw : {A : Type 0} → Drawing A → List ℕ → Outcome A
 draw d ws = given (conditions d ws) (d .reads ws)
 
--- The contract of every draw: over the words ws the answer a is, in the paper's terms, the drawing's outcome.
+-- The contract of every draw: over the words ws the answer a is, in the rules' terms, the drawing's outcome.
 abbrev pub DrawAllows : Drawing ℕ → List ℕ → Answer → Type 0
 DrawAllows d ws a = paper a ≡ draw d ws

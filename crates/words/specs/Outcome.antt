@@ -1,4 +1,4 @@
--- What a call comes to in the paper's terms (01, 'Refusal numbers'). Assumes nothing.
+-- What a call comes to in the rules' terms (RULES, 'Refusals'). Assumes nothing.
 use Prim.Native.Nat.{ℕ}
 
 -- what was drawn and the number of words used, or the refusal's number

@@ -1,4 +1,4 @@
--- The enums in the paper's terms: each refusal's number (01, 'Refusal numbers'), and a draw's answer. Assumes nothing.
+-- The enums in the rules' terms, as their page has them: each refusal's number (RULES, 'Refusals'), and a draw's answer. Assumes nothing.
 use Prim.Native.Nat.{ℕ}
 use Rattle.words.specs.declared.Answer.{Answer}
 use Rattle.words.specs.declared.Answer.the-variants.{Drawn, Refused}

@@ -1,4 +1,4 @@
--- 01, 'Refusal numbers': a call's refusals are a list of numbers and conditions in the call's order, and the first that holds is given.
+-- RULES, 'Refusals': a call's refusals are a list of numbers and conditions in the call's order, and the first that holds is given.
 -- Assumes nothing.
 use Prim.Native.Nat.{ℕ}
 use mathlib.Core.Bool.{Bool, true, false, cond}

@@ -1,4 +1,4 @@
--- How a drawing rule reads words (01, 'Words and fractions'): from the front, in order, one at a time. Said once for all draws. Assumes nothing.
+-- How a drawing rule reads words (RULES, 'Words and fractions'): from the front, in order, one at a time. Said once for all draws. Assumes nothing.
 use Prim.Native.Nat.{ℕ, suc, _<_}
 use mathlib.Core.List.{List, [], _∷_, _++_}
 use mathlib.Core.Path.{_≡_}

@@ -1,4 +1,4 @@
--- 01, 'Words and fractions': the tape's limit, and the fraction of a word. Assumes nothing.
+-- RULES, 'Words and fractions': the tape's limit, and the fraction of a word. Assumes nothing.
 use Prim.Native.Nat.{ℕ, _/_, _^_}
 use mathlib.Core.Bool.{Bool, false}
 use mathlib.Core.List.{List}

@@ -1,4 +1,4 @@
--- Whole numbers as text, in ASCII, as they are written: without leading zeros. Assumes nothing.
+-- RULES, 'Text': whole numbers, in ASCII, as they are written, without leading zeros. Assumes nothing.
 use Prim.Native.Nat.{ℕ, zero, suc, _+_, _/_, _%_}
 use mathlib.Core.Bool.{cond}
 use mathlib.Core.List.{List, [], _∷_, _++_}
