@@ -1,5 +1,5 @@
--- RULES, 'The book', Deliver, and 'Refusals': order 1, 11, 12, 13, then copy or 14, parameters, 15, and those of a tape that is too
--- short. Assumes nothing.
+-- RULES, 'The book', Deliver, and 'Refusals': order 1, 11, 12, 13, then copy or 14, the parameters', 15, and the refusals of a tape that is
+-- too short. Assumes nothing.
 use Prim.Native.Nat.{ℕ, _+_, _-_}
 use mathlib.Core.Bool.{Bool, cond, not, _&&_, _||_}
 use mathlib.Core.List.{List, [], _∷_, _++_}

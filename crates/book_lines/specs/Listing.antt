@@ -42,7 +42,7 @@ endLine n = line (endText ∷ decimal n ∷ [])
 unfoldable pub listed : List Entry → List ℕ
 listed es = header ++ (entryLines es ++ endLine (length es))
 
--- every call's first refusals, with the tape's length taken as 1,048,576 words: that is not too long, so that no book is refused with 1
+-- the first refusals of every call on a book, with the tape's length taken as 1,048,576 words: that is not too long, so that no book is refused with 1
 abbrev pub listingRefusals : List ℕ → List Condition
 listingRefusals b = limitsFor (isTooLong mostWords) mostWords b
 

@@ -1,5 +1,6 @@
--- RULES, 'Demands', 3, and 'Lines of pull': the pull service keeps demand 3: whatever lines it is fed over one tape, from an all-zero book, and whatever it does with each, as the contract
--- of `serve` allows, the book is kept as demand 3 says, with the history of the calls that its lines ask for. Assumes nothing.
+-- RULES, 'Demands', 3, over 'Lines of pull': whatever lines the pull service is fed over one tape, from an all-zero book, and whatever it
+-- does with each, as the contract of `serve` allows, the book is kept as demand 3 says, with the history of the calls that its lines ask
+-- for. Assumes nothing.
 use Prim.Native.Nat.{ℕ, suc}
 use mathlib.Core.Bool.{Bool}
 use mathlib.Core.List.{List, [], _∷_, _++_}

@@ -1,5 +1,5 @@
--- Demand 2 for draws (RULES, 'Demands'): every draw equals the rules in count, words used and each refusal; counts keep to their support; one answer is
--- possible. Assumes nothing.
+-- RULES, 'Demands', 2, for draws: every draw equals the rules in count, words used and each refusal; counts keep to their support; one
+-- answer is possible. Assumes nothing.
 use Prim.Native.Nat.{ℕ}
 use mathlib.Core.List.{List}
 use mathlib.Core.Logic.{_↔_}

@@ -1,19 +1,19 @@
 -- Entry one of docs/DIFFERENCES.md: the Rust's walk to k is the walk here up to min(n1, k), and what it lands on past there is outside the
 -- support. So there is no other difference between the two. Assumes nothing.
-use mathlib.Core.Path.{_≡_, refl, sym, ap, _∙_, subst}
+use mathlib.Core.Path.{_≡_, refl, ap, _∙_}
 use mathlib.Core.Bool.{Bool, true, false}
-use Prim.Native.Nat.{ℕ, zero, suc, _+_, _-_, _*_, _^_, _≤_, _<_, min}
+use Prim.Native.Nat.{ℕ, zero, suc, _+_, _-_, _^_, _≤_, _<_, min}
 use native.Mathlib.Omega.{arith}
 use borrow.Author.Tests.{lt-ltb, le-ltb}
-use lib.IntN.{pos, negsuc, _+ℤ_, _-ℤ_}
+use lib.IntN.{pos, negsuc, _-ℤ_}
 use lib.Ieee.{Float, binary64, sub, lt}
 use Rattle.words.specs.Words.{fractionOf}
 use Rattle.words.specs.Refusals.{NoneHolds}
 use Rattle.hypergeometric.specs.Reduction.{populationCap, landing, reduction, InSupport}
 use Rattle.hypergeometric.specs.SetUp.{setUp, trayRefusals}
-use Rattle.hypergeometric.specs.Inversion.{upBy, downBy, nextP, walk, inverted}
+use Rattle.hypergeometric.specs.Inversion.{nextP, walk, inverted}
 use Rattle.hypergeometric.specs.Hypergeometric.{counted}
-use Rattle.hypergeometric.specs.RustWalk.{rustUp, rustDown, rustNextP, rustWalk, rustX, rustLanding, cast, rustCounted, EntryOne}
+use Rattle.hypergeometric.specs.RustWalk.{rustNextP, rustWalk, rustX, rustLanding, cast, rustCounted, EntryOne}
 use Rattle.hypergeometric.proofs.Reducing.{by-case, k≤n2}
 use Rattle.hypergeometric.proofs.Settling.{accepted-K, accepted-n, accepted-N}
 

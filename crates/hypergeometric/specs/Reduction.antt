@@ -1,4 +1,5 @@
--- RULES, 'The reduction' of a population of N, K of them marked, and a sample of n, for K ≤ N and n ≤ N. Assumes nothing.
+-- RULES, 'The reduction': of N things, K of them marked, and a sample of n, for K ≤ N and n ≤ N; the cap of 'The inversion', and the
+-- support ('Demands', 2). Assumes nothing.
 use Prim.Native.Nat.{ℕ, _+_, _-_, _/_, _≤_, min}
 use mathlib.Core.Bool.{cond}
 use lib.Dec.{leb, ltb}

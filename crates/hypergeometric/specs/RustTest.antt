@@ -1,5 +1,5 @@
--- What the Rust asks where RULES, 'The inversion', asks (k+1)(n1+1) < 10(N+2), and whether the first probability is zero or not finite: tests of
--- floats, each operation rounded once. No contract speaks of them; the laws `taken-agrees` and `first-agrees` compare. Assumes nothing.
+-- What the Rust asks where RULES, 'The inversion', asks for refusals 6 and 2, (k+1)(n1+1) and 10(N+2), and a first probability that is 0 or not
+-- finite: tests of floats, each operation rounded once. No contract speaks of them; the laws `taken-agrees` and `first-agrees` compare. Assumes nothing.
 use Prim.Native.Nat.{ℕ, _+_, _-_, _*_, _/_}
 use mathlib.Core.Bool.{Bool, true, false, not, _||_, cond}
 use lib.Ieee.{Float, nan, inf, fin, binary64, up, down, round, sub, mul, div, lt, le}

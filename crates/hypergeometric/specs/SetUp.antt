@@ -1,4 +1,4 @@
--- RULES, 'The reduction' and 'The inversion': the set-up record, and the refusals of a tray's parameters. Assumes nothing.
+-- RULES, 'The inversion': the set-up record, and the refusals of a tray's parameters in their order. Assumes nothing.
 use Prim.Native.Nat.{ℕ, _+_, _*_}
 use mathlib.Core.Bool.{Bool, not, _||_}
 use mathlib.Core.List.{List, [], _∷_}

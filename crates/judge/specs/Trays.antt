@@ -1,5 +1,5 @@
--- RULES, 'Against the Rust'; DIFFERENCES, entry one, as a statement: of every accepted tray and every word, the Rust's count is the count here, or entry one lists it.
--- Assumes nothing.
+-- RULES, 'Against the Rust'; DIFFERENCES, entry one, as a statement: of every accepted tray and every word, the Rust's count is the count
+-- here, or entry one lists it. Assumes nothing.
 use Prim.Native.Nat.{ℕ, min}
 use mathlib.Core.Bool.{cond}
 use mathlib.Core.Path.{_≡_}

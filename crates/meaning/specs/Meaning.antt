@@ -1,5 +1,5 @@
--- RULES, 'What a count means': the marked among n things, drawn without replacement from N of which K are marked. Every sample of n is as
--- likely as any other, so that a count is as likely as it has ways. Assumes nothing.
+-- RULES, 'What a count means': a count is the marked among n things, drawn without replacement from N of which K are marked. Every sample of n
+-- is as likely as any other, so that a count is as likely as it has ways. Assumes nothing.
 use Prim.Native.Nat.{ℕ, _+_, _-_, _*_, _≤_, _<_, min}
 use mathlib.Core.Path.{_≡_}
 use Rattle.ways.specs.Choose.{choose, factorial, ways, waysUpTo}

@@ -1,4 +1,4 @@
--- RULES, 'Lines of pull': a float as text, a decimal, whose value is the nearest binary64, or the 64 bits themselves. Assumes nothing.
+-- RULES, 'Lines of pull': a float as text is a decimal, which stands for the nearest binary64, or the 64 bits themselves. Assumes nothing.
 use Prim.Native.Nat.{ℕ, _-_, _^_}
 use mathlib.Core.Bool.{Bool, false, cond, not, _&&_, _||_}
 use mathlib.Core.List.{List, _++_}

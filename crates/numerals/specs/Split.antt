@@ -1,5 +1,5 @@
--- RULES, 'Lines of pull': text parted by a byte, what stands before the first such byte, and what stands after it. Once for every byte, a space or a point.
--- Assumes nothing.
+-- RULES, 'Lines of pull': text parted by a byte into what stands before the first such byte and what stands after it. Once for every
+-- byte, a space or a point. Assumes nothing.
 use Prim.Native.Nat.{ℕ, suc}
 use mathlib.Core.Bool.{Bool}
 use mathlib.Core.List.{List}

@@ -32,7 +32,7 @@ bookedFor t b = Option·getD (decode t b) []
 abbrev pub booked : List ℕ → List ℕ → List Entry
 booked ws b = bookedFor (length ws) b
 
--- every call's first refusals, in their order, by whether the tape is too long and the number of its words
+-- the first refusals of every call on a book, in their order, by whether the tape is too long and the number of its words
 abbrev pub limitsFor : Bool → ℕ → List ℕ → List Condition
 limitsFor long t b = 1 on long ∷ 11 on bookTooLong b ∷ 12 on isDamagedFor t b ∷ []
 

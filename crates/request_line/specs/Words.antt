@@ -22,7 +22,7 @@ unfoldable pub spaces : List ℕ → ℕ
 spaces [] = 0
 spaces (b ∷ bs) = cond (eqb b space) 1 0 + spaces bs
 
--- the number of words: two spaces together part an empty word, which is no word of any request
+-- the number of words: two spaces together part an empty word, which is a word of no line that is read
 unfoldable pub words : List ℕ → ℕ
 words l = spaces l + 1
 

@@ -1,4 +1,4 @@
--- RULES, 'Geometric', the third way: the search for p below 2/3, word by word. Assumes nothing.
+-- RULES, 'Geometric', the third way: the search, word by word. Assumes nothing.
 use Prim.Native.Nat.{ℕ, _+_, _*_, _%_}
 use mathlib.Core.Bool.{cond}
 use lib.Ieee.{Float, lt}

@@ -1,4 +1,5 @@
--- RULES, 'Lines of pull': what the pull service does with one line, what it says, the book after it, and whether the book has to be written. Assumes nothing.
+-- RULES, 'Lines of pull': what comes of one line, that is what is said, the book after it, and whether the book has to be written.
+-- Assumes nothing.
 use Prim.Native.Nat.{ℕ}
 use mathlib.Core.Bool.{Bool, true, false, not}
 use mathlib.Core.List.{List, []}

@@ -1,4 +1,4 @@
--- What a call comes to in the rules' terms (RULES, 'Refusals'). Assumes nothing.
+-- What a call comes to in the rules' terms (RULES, 'Refusals'; that a refusal has count 0 and used 0: 'Demands', 1). Assumes nothing.
 use Prim.Native.Nat.{ℕ}
 
 -- what was drawn and the number of words used, or the refusal's number

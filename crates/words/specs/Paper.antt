@@ -1,4 +1,4 @@
--- The enums in the rules' terms, as their page has them: each refusal's number (RULES, 'Refusals'), and a draw's answer. Assumes nothing.
+-- RULES, 'Refusals': the enums in the terms of that page, each refusal's number and a draw's answer. Assumes nothing.
 use Prim.Native.Nat.{ℕ}
 use Rattle.words.specs.declared.Answer.{Answer}
 use Rattle.words.specs.declared.Answer.the-variants.{Drawn, Refused}

@@ -1,6 +1,6 @@
--- RULES, 'Worked books', the second. A tape of 17 words and a book of 140 bytes; deliveries of every kind,
--- copies and a strike; each answer, and every byte after each call. No two fields of an entry have the same value, but for the kind 1 and the
--- word that a hypergeometric draw uses. Assumes nothing.
+-- RULES, 'Worked books', the second. A tape of 17 words and a book of 140 bytes; deliveries of every kind, copies and a strike; each answer,
+-- and every byte after each call. No two fields of an entry have the same value, but for the kind 1 and the word that a hypergeometric draw
+-- uses. Assumes nothing.
 use Prim.Native.Nat.{ℕ}
 use mathlib.Core.List.{List, [], _∷_, _++_}
 use mathlib.Core.Path.{_≡_}
