@@ -15,6 +15,7 @@ use Rattle.hypergeometric.specs.Inversion.{nextP, walk, inverted}
 use Rattle.hypergeometric.specs.Hypergeometric.{counted}
 use Rattle.hypergeometric.specs.RustWalk.{rustNextP, rustWalk, rustX, rustLanding, cast, rustCounted, EntryOne}
 use Rattle.hypergeometric.proofs.Reducing.{by-case, k≤n2}
+use Rattle.hypergeometric.proofs.Walks.{walk-within}
 use Rattle.hypergeometric.proofs.Settling.{accepted-K, accepted-n, accepted-N}
 
 -- a difference of two numbers, by which is the greater
@@ -33,33 +34,14 @@ module _ (n1 n2 k : ℕ) (kn : k ≤ n2) where
   unfolding rustNextP nextP
   next-same x p h j = rw (minus n1 x h, minus k x j, minus n2 k kn)
 
-  -- x never falls, and never passes k
-  rust≥ : (r : ℕ) (b : Bool) (x : ℕ) (u p : Float) → x ≤ rustWalk n1 n2 k r b x u p
-  unfolding rustWalk
-  rust≥ zero b x u p = omega arith
-  rust≥ (suc r) false x u p = omega arith
-  rust≥ (suc r) true x u p =
-      let v = sub binary64 u p in
-      let q = rustNextP n1 n2 k x p in
-      omega (arith, rust≥ r (lt q v) (x + 1) v q)
-
-  rust≤ : (r : ℕ) (b : Bool) (x : ℕ) (u p : Float) → rustWalk n1 n2 k r b x u p ≤ r + x
-  unfolding rustWalk
-  rust≤ zero b x u p = omega arith
-  rust≤ (suc r) false x u p = omega arith
-  rust≤ (suc r) true x u p =
-      let v = sub binary64 u p in
-      let q = rustNextP n1 n2 k x p in
-      omega (arith, rust≤ r (lt q v) (x + 1) v q)
-
   -- what two walks come to, the one here with its bound r steps ahead: the same x, or the bound, where the Rust's passes it
   abbrev Beside : ℕ → ℕ → ℕ → Type 0
   Beside bound here rust = (rust ≤ bound → rust ≡ here) × (bound < rust → here ≡ bound)
 
   beside : (r more : ℕ) (b : Bool) (x : ℕ) (u p : Float) → r ≤ more → r + x ≤ n1 → r + x ≤ k
-      → Beside (r + x) (walk n1 n2 k r b x u p) (rustWalk n1 n2 k more b x u p)
-  unfolding walk rustWalk
-  beside zero more b x u p f h j = (λ l. omega (arith, rust≥ more b x u p), λ l. omega arith)
+      → Beside (r + x) (walk (nextP n1 n2 k) r b x u p) (walk (rustNextP n1 n2 k) more b x u p)
+  unfolding walk
+  beside zero more b x u p f h j = (λ l. omega (arith, walk-within (rustNextP n1 n2 k) more b x u p .0), λ l. omega arith)
   beside (suc r) zero b x u p f h j = absurd (omega arith)
   beside (suc r) (suc more) false x u p f h j = (λ l. refl, λ l. absurd (omega arith))
   beside (suc r) (suc more) true x u p f h j =
@@ -93,7 +75,7 @@ module _ (N K n : ℕ) (hK : K ≤ N) (hn : n ≤ N) (hN : N ≤ populationCap) 
 
 -- ---- together: of every tray that is accepted, and every word
 pub entry-one : (N K n : ℕ) → NoneHolds (trayRefusals N K n) → (w : ℕ) → EntryOne N K n (setUp N K n) w
-unfolding setUp rustX rustCounted counted inverted
+unfolding setUp rustWalk rustX rustCounted counted inverted
 entry-one N K n none w =
     let hK = accepted-K N K n none in
     let hn = accepted-n N K n none in
@@ -104,7 +86,7 @@ entry-one N K n none w =
     let bound = min (h .n1) (h .k) in
     let kn = k≤n2 N K n hK hn in
     let both = beside (h .n1) (h .n2) (h .k) kn bound (h .k) (lt p u) 0 u p (omega arith) (omega arith) (omega arith) in
-    let top : rustX h w ≤ h .k = omega (arith, rust≤ (h .n1) (h .n2) (h .k) kn (h .k) (lt p u) 0 u p) in
+    let top : rustX h w ≤ h .k = omega (arith, walk-within (rustNextP (h .n1) (h .n2) (h .k)) (h .k) (lt p u) 0 u p .1) in
     record {
       same = λ l. cast-same N K n hK hn hN (rustX h w) l ∙ ap (landing (h .sign) (h .offset)) (both .0 (omega arith));
       past = λ l. cast-past N K n hK hn hN (rustX h w) l top;

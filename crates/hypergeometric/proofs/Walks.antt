@@ -29,36 +29,35 @@ module _ (n1 n2 k x : ℕ) (s : Small n1 n2 k) (h : x < k) where
   pub step-exact : StepExact n1 n2 k x
   step-exact = (whole-exact ((n1 - x) * (k - x)) (omega (arith, up≤)), whole-exact ((x + 1) * (n2 - k + 1 + x)) (omega (arith, down≤)))
 
-module _ (n1 n2 k : ℕ) where
+module _ (next : ℕ → Float → Float) where
   pub walk-more : (m x : ℕ) (u p : Float) → x < m
-      → walk n1 n2 k (m - x) true x u p
-      ≡ walk n1 n2 k (m - (x + 1)) (lt (nextP n1 n2 k x p) (sub binary64 u p)) (x + 1) (sub binary64 u p) (nextP n1 n2 k x p)
+      → walk next (m - x) true x u p ≡ walk next (m - (x + 1)) (lt (next x p) (sub binary64 u p)) (x + 1) (sub binary64 u p) (next x p)
   unfolding walk
   walk-more m x u p h = let e : m - x ≡ suc (m - (x + 1)) = omega arith in rw e
 
-  pub walk-below : (r x : ℕ) (u p : Float) → walk n1 n2 k r false x u p ≡ x
+  pub walk-below : (r x : ℕ) (u p : Float) → walk next r false x u p ≡ x
   unfolding walk
   walk-below zero x u p = refl
   walk-below (suc r) x u p = refl
 
-  pub walk-end : (m : ℕ) (b : Bool) (x : ℕ) (u p : Float) → m ≤ x → walk n1 n2 k (m - x) b x u p ≡ x
+  pub walk-end : (m : ℕ) (b : Bool) (x : ℕ) (u p : Float) → m ≤ x → walk next (m - x) b x u p ≡ x
   unfolding walk
   walk-end m b x u p h = let e : m - x ≡ 0 = omega arith in rw e
 
-  walk≤ : (r : ℕ) (b : Bool) (x : ℕ) (u p : Float) → walk n1 n2 k r b x u p ≤ r + x
+  -- x never falls, and never passes the bound, whatever rounding leaves of u
+  pub walk-within : (r : ℕ) (b : Bool) (x : ℕ) (u p : Float) → (x ≤ walk next r b x u p) × (walk next r b x u p ≤ r + x)
   unfolding walk
-  walk≤ zero b x u p = omega arith
-  walk≤ (suc r) false x u p = omega arith
-  walk≤ (suc r) true x u p =
+  walk-within zero b x u p = (omega arith, omega arith)
+  walk-within (suc r) false x u p = (omega arith, omega arith)
+  walk-within (suc r) true x u p =
       let v = sub binary64 u p in
-      let q = nextP n1 n2 k x p in
-      let ih = walk≤ r (lt q v) (x + 1) v q in
-      omega arith
+      let q = next x p in
+      let ih = walk-within r (lt q v) (x + 1) v q in
+      (omega arith, omega arith)
 
-  -- x never passes the bound, whatever rounding leaves of u
-  pub inverted≤ : (p u : Float) → inverted n1 n2 k p u ≤ min n1 k
-  unfolding inverted
-  inverted≤ p u = omega (arith, walk≤ (min n1 k) (lt p u) 0 u p)
+pub inverted≤ : (n1 n2 k : ℕ) (p u : Float) → inverted n1 n2 k p u ≤ min n1 k
+unfolding inverted
+inverted≤ n1 n2 k p u = omega (arith, walk-within (nextP n1 n2 k) (min n1 k) (lt p u) 0 u p .1)
 
 -- the u and the p of each x, one step after the other
 module _ (n1 n2 k : ℕ) (p u : Float) where
@@ -76,7 +75,7 @@ module _ (n1 n2 k : ℕ) (p u : Float) where
     pub stop : x < bound → lt (pAt x) (uAt x) ≡ false
 
   stops-from : (r x : ℕ) (b : Bool) → lt (pAt x) (uAt x) ≡ b → ((i : ℕ) → i < x → lt (pAt i) (uAt i) ≡ true)
-      → Stops (r + x) (walk n1 n2 k r b x (uAt x) (pAt x))
+      → Stops (r + x) (walk (nextP n1 n2 k) r b x (uAt x) (pAt x))
   unfolding walk pAt uAt
   stops-from zero x b e h = record { above = h; stop = λ l. absurd (omega arith) }
   stops-from (suc r) x false e h = record { above = h; stop = λ l. e }

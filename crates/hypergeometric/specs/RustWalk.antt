@@ -1,16 +1,15 @@
 -- What the Rust's inversion does where the rules end it at min(n1, k) (RULES, 'The inversion'; DIFFERENCES, entry one): it goes on
 -- to k, in numbers that may be below 0, and casts what it lands on to 64 bits. No contract speaks of it; `entry-one` compares. Assumes nothing.
-use Prim.Native.Nat.{ℕ, zero, suc, _+_, _-_, _^_, _≤_, _<_, min}
-use mathlib.Core.Bool.{Bool, true, false}
+use Prim.Native.Nat.{ℕ, suc, _-_, _^_, _≤_, _<_, min}
 use mathlib.Core.Path.{_≡_}
 use lib.IntN.{ℤ, pos, negsuc, _+ℤ_, _-ℤ_, _*ℤ_}
-use lib.Ieee.{Float, binary64, ofInt, sub, mul, div, lt}
+use lib.Ieee.{Float, binary64, ofInt, mul, div, lt}
 use Rattle.words.specs.Words.{fractionOf}
 use Rattle.hypergeometric.specs.declared.Sign.{Sign}
 use Rattle.hypergeometric.specs.declared.Sign.the-variants.{Plus, Minus}
 use Rattle.hypergeometric.specs.declared.Hypergeometric.{Hypergeometric}
 use Rattle.hypergeometric.specs.Reduction.{InSupport}
-use Rattle.hypergeometric.specs.Inversion.{inverted}
+use Rattle.hypergeometric.specs.Inversion.{walk, inverted}
 use Rattle.hypergeometric.specs.Hypergeometric.{counted}
 
 -- the two whole numbers of a step; past n1 the first is 0, then below 0
@@ -23,16 +22,13 @@ rustDown n2 k x = (pos x +ℤ pos 1) *ℤ (pos n2 -ℤ pos k +ℤ pos 1 +ℤ pos
 unfoldable pub rustNextP : ℕ → ℕ → ℕ → ℕ → Float → Float
 rustNextP n1 n2 k x p = div binary64 (mul binary64 p (ofInt binary64 (rustUp n1 k x))) (ofInt binary64 (rustDown n2 k x))
 
--- its loop: k is r steps ahead of x, and the Bool says whether u is above p
-unfoldable pub rustWalk : ℕ → ℕ → ℕ → ℕ → Bool → ℕ → Float → Float → ℕ
-rustWalk n1 n2 k zero above x u p = x
-rustWalk n1 n2 k (suc r) false x u p = x
-rustWalk n1 n2 k (suc r) true x u p =
-    rustWalk n1 n2 k r (lt (rustNextP n1 n2 k x p) (sub binary64 u p)) (x + 1) (sub binary64 u p) (rustNextP n1 n2 k x p)
+-- its walk by this step, with the bound k: the x that it ends at
+unfoldable pub rustWalk : ℕ → ℕ → ℕ → Float → Float → ℕ
+rustWalk n1 n2 k p u = walk (rustNextP n1 n2 k) k (lt p u) 0 u p
 
--- the x that it ends at, by a record and a word
+-- by a record and a word
 unfoldable pub rustX : Hypergeometric → ℕ → ℕ
-rustX h w = rustWalk (h .n1) (h .n2) (h .k) (h .k) (lt (h .first) (fractionOf w)) 0 (fractionOf w) (h .first)
+rustX h w = rustWalk (h .n1) (h .n2) (h .k) (h .first) (fractionOf w)
 
 -- offset + sign·x, which may be below 0
 abbrev pub rustLanding : Sign → ℕ → ℕ → ℤ

@@ -8,14 +8,14 @@ use Prim.Native.Nat.{zero-le, _≤_, _<_, _-_, min}
 use native.Mathlib.Nat.{sub-zero}
 use native.Mathlib.Omega.{arith}
 use lib.Ieee.{lt}
-use Rattle.hypergeometric.specs.Inversion.{walk, inverted}
+use Rattle.hypergeometric.specs.Inversion.{nextP, walk, inverted}
 use Rattle.hypergeometric.proofs.Walks.{walk-more, walk-below, walk-end}
 use Rattle.hypergeometric.proofs.invert.Statement.{statement}
 use Rattle.hypergeometric.proofs.invert.Tie as tie
 
 abbrev Inv-loop : tie.InvT-loop
 Inv-loop fraction n1 n2 k bound u₀ p₀ x₀ u p x =
-    (x ≤ bound) × (bound ≡ min n1 k) × (inverted n1 n2 k p₀ u₀ ≡ walk n1 n2 k (bound - x) (lt p u) x u p)
+    (x ≤ bound) × (bound ≡ min n1 k) × (inverted n1 n2 k p₀ u₀ ≡ walk (nextP n1 n2 k) (bound - x) (lt p u) x u p)
 
 abbrev μ-loop : tie.MeasureT-loop
 μ-loop fraction n1 n2 k bound u₀ p₀ x₀ u p x = bound - x
@@ -46,7 +46,7 @@ loop-again c =
     let s = c .before .before .before .before .before .args .kept in
     let b = c .before .before .before .before .smaller .result in
     let h : l .x < b = ltb-true _ _ (c .before .if1 .taken) in
-    let more = walk-more (s .n1) (s .n2) (s .k) b (l .x) (l .u) (l .p) h in
+    let more = walk-more (nextP (s .n1) (s .n2) (s .k)) b (l .x) (l .u) (l .p) h in
     (omega arith, l .inv .1, l .inv .2 ∙ simp (c .before .before .loop-test .taken) (more ∙ simp (← c .next-p .ensures)))
 
 returns : tie.Need-returns Inv-loop μ-loop
@@ -54,13 +54,13 @@ returns c =
     let l = c .before .before .loop in
     let s = c .before .before .before .before .args .kept in
     let b = c .before .before .before .smaller .result in
-    sym (l .inv .2 ∙ walk-end (s .n1) (s .n2) (s .k) b _ (l .x) (l .u) (l .p) (ltb-false (l .x) b (c .if1 .left)))
+    sym (l .inv .2 ∙ walk-end (nextP (s .n1) (s .n2) (s .k)) b _ (l .x) (l .u) (l .p) (ltb-false (l .x) b (c .if1 .left)))
 
 returns-2 : tie.Need-returns-2 Inv-loop μ-loop
 returns-2 c =
     let l = c .before .loop in
     let s = c .before .before .before .args .kept in
-    sym (l .inv .2 ∙ simp (c .loop-test .left) (walk-below (s .n1) (s .n2) (s .k) _ (l .x) (l .u) (l .p)))
+    sym (l .inv .2 ∙ simp (c .loop-test .left) (walk-below (nextP (s .n1) (s .n2) (s .k)) _ (l .x) (l .u) (l .p)))
 
 pub invert-spec : {M : Type 1} → statement M
 invert-spec =
