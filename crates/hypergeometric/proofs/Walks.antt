@@ -1,7 +1,7 @@
 -- Laws of the inversion: what one turn does, where it ends, and that its whole numbers stay where a float has each of them. Assumes nothing.
 use mathlib.Core.Path.{_≡_, refl, ap}
 use mathlib.Core.Bool.{Bool, true, false}
-use Prim.Native.Nat.{ℕ, zero, suc, _+_, _-_, _*_, _^_, _<_, _≤_, min}
+use Prim.Native.Nat.{ℕ, zero, suc, _+_, _-_, _^_, _<_, _≤_, min}
 use native.Mathlib.Nat.{mul-le-mul}
 use native.Mathlib.Numerals.{add-one}
 use native.Mathlib.Omega.{arith}
@@ -9,25 +9,23 @@ use borrow.Author.Count.{below-none, below-more}
 use lib.Ieee.{Float, binary64, sub, lt}
 use lib.Ieee.Exact.{HasValue}
 use Rattle.first_probability.specs.First.{asFloat}
-use Rattle.hypergeometric.specs.Inversion.{nextP, walk, inverted}
+use Rattle.hypergeometric.specs.Inversion.{upBy, downBy, nextP, walk, inverted}
 use Rattle.hypergeometric.specs.Inner.{Small}
 use Rattle.first_probability.proofs.Factors.{whole-exact}
 
 -- the two whole numbers of a step, as floats, are themselves to the last bit
 abbrev pub StepExact : ℕ → ℕ → ℕ → ℕ → Type 0
-StepExact n1 n2 k x =
-    HasValue (asFloat ((n1 - x) * (k - x))) false ((n1 - x) * (k - x)) 1
-    × HasValue (asFloat ((x + 1) * (n2 - k + 1 + x))) false ((x + 1) * (n2 - k + 1 + x)) 1
+StepExact n1 n2 k x = HasValue (asFloat (upBy n1 k x)) false (upBy n1 k x) 1 × HasValue (asFloat (downBy n2 k x)) false (downBy n2 k x) 1
 
 module _ (n1 n2 k x : ℕ) (s : Small n1 n2 k) (h : x < k) where
-  pub up≤ : (n1 - x) * (k - x) ≤ 2 ^ 40
+  pub up≤ : upBy n1 k x ≤ 2 ^ 40
   up≤ = mul-le-mul {n₂ = 2 ^ 20} {m₂ = 2 ^ 20} (omega arith) (omega arith)
 
-  pub down≤ : (x + 1) * (n2 - k + 1 + x) ≤ 2 ^ 40
+  pub down≤ : downBy n2 k x ≤ 2 ^ 40
   down≤ = mul-le-mul {n₂ = 2 ^ 20} {m₂ = 2 ^ 20} (omega arith) (omega arith)
 
   pub step-exact : StepExact n1 n2 k x
-  step-exact = (whole-exact ((n1 - x) * (k - x)) (omega (arith, up≤)), whole-exact ((x + 1) * (n2 - k + 1 + x)) (omega (arith, down≤)))
+  step-exact = (whole-exact (upBy n1 k x) (omega (arith, up≤)), whole-exact (downBy n2 k x) (omega (arith, down≤)))
 
 module _ (next : ℕ → Float → Float) where
   pub walk-more : (m x : ℕ) (u p : Float) → x < m

@@ -1,4 +1,4 @@
--- RULES, 'Text', its last sentence: what it is to write a text into lent bytes. Assumes nothing.
+-- RULES, 'Text': what it is to write a text into lent bytes. Assumes nothing.
 use Prim.Native.Nat.{ℕ, _+_, _≤_}
 use mathlib.Core.List.{List}
 use mathlib.Core.Path.{_≡_}
