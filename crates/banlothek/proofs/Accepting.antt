@@ -1,4 +1,5 @@
--- What a caller in C reads off `refusal`: it is 0 exactly where the call is accepted, since no refusal has the number 0. Assumes nothing.
+-- What a caller in C reads off `refusal`: it is 0 exactly where the call is accepted, since no refusal has the number 0. Of a delivery that is
+-- `deliver-accepted` (Asking). Assumes nothing.
 use mathlib.Core.Path.{_≡_, refl}
 use mathlib.Core.Logic.{_↔_}
 use native.Mathlib.Omega.{arith}
@@ -8,16 +9,13 @@ use Rattle.words.specs.declared.Refusal.{Refusal}
 use Rattle.words.specs.declared.Refusal.the-variants.{TapeTooLong, PopulationTooLarge, ProbabilityTooLarge, SampleSizeTooLarge, CapExceeded, ModeTooHigh, ThresholdOutside, InvalidProbability, TooRare, Exhausted, BookTooLong, BookDamaged, SerialAhead, SerialReused, BookFull, StrikeTooMany, RedrawDiffers}
 use Rattle.words.specs.Outcome.{Outcome, drawn, refused}
 use Rattle.words.specs.Paper.{numberOf, paper}
-use Rattle.book.specs.declared.Delivered.{Delivered}
-use Rattle.book.specs.declared.Delivered.the-variants as of-delivered
 use Rattle.book.specs.declared.Struck.{Struck}
 use Rattle.book.specs.declared.Struck.the-variants as of-struck
 use Rattle.redraws.specs.declared.Redrawn.{Redrawn}
 use Rattle.redraws.specs.declared.Redrawn.the-variants as of-redrawn
-use Rattle.book.specs.Deliver.{delivered}
 use Rattle.book.specs.Strike.{struck}
 use Rattle.redraws.specs.Redraw.{redrawn}
-use Rattle.banlothek.specs.Face.{plain, ofDelivery, ofRedraw}
+use Rattle.banlothek.specs.Face.{plain, ofRedraw}
 
 no-zero : (x : Refusal) → numberOf x ≡ 0 → ⊥
 no-zero TapeTooLong e = omega arith
@@ -46,11 +44,6 @@ Accepted (refused n) = ⊥
 pub draw-accepted : (a : Answer) → (plain (paper a) .refusal ≡ 0) ↔ Accepted (paper a)
 draw-accepted (Drawn d) = ((λ e. tt), (λ t. refl))
 draw-accepted (Refused x) = (no-zero x, (λ t. absurd t))
-
-pub delivery-accepted : (a : Delivered) → (ofDelivery (delivered a) .refusal ≡ 0) ↔ Accepted (delivered a)
-delivery-accepted (of-delivered.Fresh d) = ((λ e. tt), (λ t. refl))
-delivery-accepted (of-delivered.Copy d) = ((λ e. tt), (λ t. refl))
-delivery-accepted (of-delivered.Refused x) = (no-zero x, (λ t. absurd t))
 
 pub strike-accepted : (a : Struck) → (plain (struck a) .refusal ≡ 0) ↔ Accepted (struck a)
 strike-accepted (of-struck.Left n) = ((λ e. tt), (λ t. refl))

@@ -1,3 +1,4 @@
 pub mod Fits
 pub mod Accepting
+pub mod Asking
 pub mod Refusing

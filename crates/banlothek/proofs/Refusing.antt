@@ -1,10 +1,11 @@
 -- What a refusal leaves a caller in C: where `refusal` is not 0, copied, used and count are 0, and the book is as it was. Assumes nothing.
 use mathlib.Core.Path.{_≡_, refl, ap, _∙_}
 use mathlib.Core.List.{List}
-use mathlib.Core.Option.{Option·getD}
+use mathlib.Core.Option.{Option, none, some, Option·getD}
 use Prim.Native.Nat.{ℕ}
 use Rattle.words.specs.Outcome.{Outcome, drawn, refused}
 use Rattle.kinds.specs.declared.Request.{Request}
+use Rattle.kinds.specs.Kinds.{requestOf}
 use Rattle.draws.specs.Request.{drawOf}
 use Rattle.layout.specs.Standing.{standing}
 use Rattle.opening.specs.Calls.{booked}
@@ -12,7 +13,7 @@ use Rattle.book.specs.Deliver.{Booking, fresh, copy, afterDelivery, deliverTo, 
 use Rattle.book.specs.Strike.{afterStrike, strikeIn, strike}
 use Rattle.redraws.specs.Redraw.{redraw}
 use Rattle.banlothek.specs.declared.BanlothekAnswer.{BanlothekAnswer}
-use Rattle.banlothek.specs.Face.{plain, ofDelivery, naming, DrawTells, DeliverTells, StrikeTells, RedrawTells}
+use Rattle.banlothek.specs.Face.{plain, ofDelivery, naming, noSuchKind, deliverAsked, Meets, DrawTells, DeliverTells, StrikeTells, RedrawTells}
 
 -- the answer is a refusal
 abbrev pub IsRefusal : BanlothekAnswer → Type 0
@@ -44,13 +45,18 @@ draw-bare r ws a e h =
     let x = refusal-of plain (λ c u. refl) a (drawOf r ws) e h in
     bare a (x .0) 0 (e ∙ ap plain (x .1))
 
--- of a delivery: the book at exit is the one at entry
-pub deliver-bare : (ws b : List ℕ) (s : ℕ) (r : Request) (a : BanlothekAnswer) (c : List ℕ) → DeliverTells ws b s r a c → IsRefusal a → Bare a × (c ≡ b)
+-- of a delivery, also where the number is no kind's: the book at exit is the one at entry
+pub deliver-bare : (ws b : List ℕ) (s k : ℕ) (ps : List ℕ) (a : BanlothekAnswer) (c : List ℕ) → DeliverTells ws b s k ps a c → IsRefusal a
+    → Bare a × (c ≡ b)
 unfolding deliver deliverTo
-deliver-bare ws b s r a c m h =
-    let o : Outcome Booking = deliver ws b s r .outcome in
-    let x = refusal-of ofDelivery of-fresh a o (m .answers) h in
-    (bare a (x .0) 0 (m .answers ∙ ap ofDelivery (x .1)), m .leaves ∙ ap (λ (y : Outcome Booking). afterDelivery y b (standing (booked ws b)) r) (x .1))
+deliver-bare ws b s k ps a c m h = go (requestOf k ps) m
+  where
+    go : (o : Option Request) → Meets ofDelivery (deliverAsked ws b s o) a c → Bare a × (c ≡ b)
+    go none n = (bare a noSuchKind 0 (n .answers), n .leaves)
+    go (some r) n =
+        let o : Outcome Booking = deliver ws b s r .outcome in
+        let x = refusal-of ofDelivery of-fresh a o (n .answers) h in
+        (bare a (x .0) 0 (n .answers ∙ ap ofDelivery (x .1)), n .leaves ∙ ap (λ (y : Outcome Booking). afterDelivery y b (standing (booked ws b)) r) (x .1))
 
 -- of a strike
 pub strike-bare : (ws b : List ℕ) (j : ℕ) (a : BanlothekAnswer) (c : List ℕ) → StrikeTells ws b j a c → IsRefusal a → Bare a × (c ≡ b)

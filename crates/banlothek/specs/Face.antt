@@ -1,12 +1,13 @@
--- RULES, 'The struct for C': its fields, by what the call comes to. Assumes nothing.
+-- RULES, 'The functions for C': what the fields of their struct hold, by what the call comes to. Assumes nothing.
 use Prim.Native.Nat.{ℕ}
 use mathlib.Core.Path.{_≡_}
 use mathlib.Core.List.{List}
-use mathlib.Core.Option.{Option·getD}
+use mathlib.Core.Option.{Option, none, some, Option·getD}
 use Rattle.words.specs.Outcome.{Outcome, drawn, refused}
 use Rattle.kinds.specs.declared.Request.{Request}
+use Rattle.kinds.specs.Kinds.{requestOf}
 use Rattle.draws.specs.Request.{drawOf}
-use Rattle.opening.specs.Calls.{Call}
+use Rattle.opening.specs.Calls.{Call, call}
 use Rattle.book.specs.Deliver.{Booking, fresh, copy, deliver}
 use Rattle.book.specs.Strike.{strike}
 use Rattle.redraws.specs.Redraw.{Redrawing, redraw}
@@ -39,18 +40,31 @@ naming (refused n) s = refusedBy n s
 abbrev pub ofRedraw : Redrawing → BanlothekAnswer
 ofRedraw r = naming (r .outcome) (Option·getD (r .named) 0)
 
+-- a number of these functions alone: that what stands for a kind is no kind's number
+abbrev pub noSuchKind : ℕ
+noSuchKind = 100
+
+-- a delivery of what is asked for; where that is nothing, it is refused before all else, and the book stays
+abbrev pub deliverAsked : List ℕ → List ℕ → ℕ → Option Request → Call Booking
+deliverAsked ws b s none = call (refused noSuchKind) b
+deliverAsked ws b s (some r) = deliver ws b s r
+
+-- which functions these are: a number that grows with them
+abbrev pub version : ℕ
+version = 1
+
 -- a call that may write does what its rule says: the struct has what the call comes to, and the book is as the rule leaves it
 pub record Meets {A : Type 0} (fields : Outcome A → BanlothekAnswer) (c : Call A) (r : BanlothekAnswer) (book : List ℕ) : Type 0 where
   pub answers : r ≡ fields (c .outcome)
   pub leaves : book ≡ c .book
 
--- The contracts, over the words ws and the book b at entry: the answer a, and the book c at exit, of a draw or a delivery of the request r,
--- a strike, a redraw.
+-- The contracts, over the words ws and the book b at entry: the answer a, and the book c at exit, of a draw of the request r, of a delivery
+-- of the kind k with the parameters ps, of a strike, of a redraw.
 abbrev pub DrawTells : Request → List ℕ → BanlothekAnswer → Type 0
 DrawTells r ws a = a ≡ plain (drawOf r ws)
 
-abbrev pub DeliverTells : List ℕ → List ℕ → ℕ → Request → BanlothekAnswer → List ℕ → Type 0
-DeliverTells ws b s r a c = Meets ofDelivery (deliver ws b s r) a c
+abbrev pub DeliverTells : List ℕ → List ℕ → ℕ → ℕ → List ℕ → BanlothekAnswer → List ℕ → Type 0
+DeliverTells ws b s k ps a c = Meets ofDelivery (deliverAsked ws b s (requestOf k ps)) a c
 
 abbrev pub StrikeTells : List ℕ → List ℕ → ℕ → BanlothekAnswer → List ℕ → Type 0
 StrikeTells ws b j a c = Meets plain (strike ws b j) a c

@@ -1,19 +1,23 @@
-// The face for C: each draw and each call on a book as a function that C can call, with one struct for every answer. include/banlothek.h
-// declares them, and says what a caller in C owes.
+// The functions for C: a draw of each kind, and each call on a book, with one struct for every answer. include/banlothek.h declares them,
+// and says what a caller in C owes.
 use book::Delivered;
 use book::Struck;
 use kinds::Request;
+use kinds::Row;
+use kinds::row_of;
 use redraws::Redrawn;
 use words::Answer;
 use words::Draw;
 use words::Refusal;
 use words::number;
 ghost use mathlib.Core.Path.{_≡_};
+ghost use mathlib.Core.List.{[], _∷_};
 ghost use Prim.Native.Nat.{_<_, _^_};
 ghost use Rattle.words.specs.Outcome.{usedOf};
 ghost use Rattle.words.specs.Paper.{numberOf, paper};
 ghost use Rattle.kinds.specs.declared.Request.the-variants.{Hypergeometric, Poisson, Geometric, StandardGeometric};
-ghost use Rattle.banlothek.specs.Face.{DeliverTells, DrawTells, RedrawTells, StrikeTells, accepted, refusedBy, plain};
+ghost use Rattle.book.specs.Deliver as rules;
+ghost use Rattle.banlothek.specs.Face.{DeliverTells, DrawTells, Meets, RedrawTells, StrikeTells, accepted, noSuchKind, ofDelivery, plain, refusedBy, version};
 
 // What every function answers. The header's `banlothek_answer` has these fields in this order.
 #[repr(C)]
@@ -115,18 +119,8 @@ pub extern "C" fn banlothek_draw_standard_geometric(tape: &[u64]) -> BanlothekAn
 
 // ---- the book
 
-fn tray(total: u64, marked: u64, sample: u64) -> Request
-    ensures { λ r. ⌜ r ≡ Hypergeometric total marked sample ⌝ }
-{
-    Request::Hypergeometric {
-        total,
-        marked,
-        sample,
-    }
-}
-
 fn deliver(tape: &[u64], book: &mut [u8], serial: u32, request: Request) -> BanlothekAnswer
-    ensures { λ r. ⌜ DeliverTells (now (tape .entry)) (now (book .entry)) serial request r (now (book .exit)) ⌝ }
+    ensures { λ r. ⌜ Meets ofDelivery (rules.deliver (now (tape .entry)) (now (book .entry)) serial request) r (now (book .exit)) ⌝ }
 {
     match book::deliver(tape, book, serial, request) {
         Delivered::Fresh(draw) => accept(0, draw),
@@ -135,56 +129,46 @@ fn deliver(tape: &[u64], book: &mut [u8], serial: u32, request: Request) -> Banl
     }
 }
 
-#[no_mangle]
-pub extern "C" fn banlothek_deliver_hypergeometric(
-    tape: &[u64],
-    book: &mut [u8],
-    serial: u32,
-    total: u64,
-    marked: u64,
-    sample: u64,
-) -> BanlothekAnswer
-    ensures { λ r. ⌜ DeliverTells (now (tape .entry)) (now (book .entry)) serial (Hypergeometric total marked sample) r (now (book .exit)) ⌝ }
+// What a number that is no kind's is refused by: a number of these functions alone, since the rules know no request of such a kind.
+const NO_SUCH_KIND: u32 = 100;
+
+fn no_such_kind() -> BanlothekAnswer
+    ensures { λ r. ⌜ r ≡ refusedBy noSuchKind 0 ⌝ }
 {
-    deliver(tape, book, serial, tray(total, marked, sample))
+    BanlothekAnswer {
+        refusal: NO_SUCH_KIND,
+        copied: 0,
+        serial: 0,
+        used: 0,
+        count: 0,
+    }
 }
 
+// By a kind's number, so that a kind to come needs no function of its own. The table of kinds says what it asks for; its numbers have 16 bits, as
+// in a book.
 #[no_mangle]
-pub extern "C" fn banlothek_deliver_poisson(
+pub extern "C" fn banlothek_deliver(
     tape: &[u64],
     book: &mut [u8],
     serial: u32,
-    threshold_bits: u64,
+    kind: u32,
+    first: u64,
+    second: u64,
+    third: u64,
 ) -> BanlothekAnswer
-    ensures { λ r. ⌜ DeliverTells (now (tape .entry)) (now (book .entry)) serial (Poisson «threshold_bits») r (now (book .exit)) ⌝ }
+    ensures { λ r. ⌜ DeliverTells (now (tape .entry)) (now (book .entry)) serial kind (first ∷ second ∷ third ∷ []) r (now (book .exit)) ⌝ }
 {
-    let request = Request::Poisson {
-        threshold: threshold_bits,
-    };
-    deliver(tape, book, serial, request)
-}
-
-#[no_mangle]
-pub extern "C" fn banlothek_deliver_geometric(
-    tape: &[u64],
-    book: &mut [u8],
-    serial: u32,
-    p_bits: u64,
-) -> BanlothekAnswer
-    ensures { λ r. ⌜ DeliverTells (now (tape .entry)) (now (book .entry)) serial (Geometric «p_bits») r (now (book .exit)) ⌝ }
-{
-    deliver(tape, book, serial, Request::Geometric { p: p_bits })
-}
-
-#[no_mangle]
-pub extern "C" fn banlothek_deliver_standard_geometric(
-    tape: &[u64],
-    book: &mut [u8],
-    serial: u32,
-) -> BanlothekAnswer
-    ensures { λ r. ⌜ DeliverTells (now (tape .entry)) (now (book .entry)) serial StandardGeometric r (now (book .exit)) ⌝ }
-{
-    deliver(tape, book, serial, Request::StandardGeometric)
+    if kind > 65535 {
+        return no_such_kind();
+    }
+    match row_of(kind as u16, first, second, third) {
+        Row::Of {
+            length: _,
+            parameters: _,
+            request,
+        } => deliver(tape, book, serial, request),
+        Row::Unknown => no_such_kind(),
+    }
 }
 
 #[no_mangle]
@@ -206,4 +190,16 @@ pub extern "C" fn banlothek_redraw(tape: &[u64], book: &[u8]) -> BanlothekAnswer
         Redrawn::Differs { serial } => refuse(Refusal::RedrawDiffers, serial as u32),
         Redrawn::Refused(refusal) => refuse(refusal, 0),
     }
+}
+
+// ---- which functions these are
+
+// The header has the same number, so that a caller can tell a header and a library that don't belong together.
+const VERSION: u32 = 1;
+
+#[no_mangle]
+pub extern "C" fn banlothek_version() -> u32
+    ensures { λ r. ⌜ r ≡ version ⌝ }
+{
+    VERSION
 }

@@ -11,6 +11,8 @@ use kinds::Request;
 use redraws::Redrawn;
 use service::Served;
 use words::Answer;
+ghost use mathlib.Core.Path.{_≡_};
+ghost use mathlib.Core.List.{[], _∷_};
 ghost use lib.Ieee.{binary64, ofBits};
 ghost use Rattle.words.specs.Draw.{DrawAllows};
 ghost use Rattle.kinds.specs.declared.Request.the-variants.{Hypergeometric, Poisson, Geometric, StandardGeometric};
@@ -25,7 +27,7 @@ ghost use Rattle.book.specs.Strike.{StrikeAllows};
 ghost use Rattle.redraws.specs.Redraw.{RedrawAllows};
 ghost use Rattle.book_lines.specs.Listing.{ListingAllows};
 ghost use Rattle.service.specs.Service.{ServeAllows};
-ghost use Rattle.banlothek.specs.Face.{DrawTells, DeliverTells, StrikeTells, RedrawTells};
+ghost use Rattle.banlothek.specs.Face.{DrawTells, DeliverTells, StrikeTells, RedrawTells, version};
 
 // ---- draws
 
@@ -143,35 +145,18 @@ fn c_draw_standard_geometric(tape: &[u64]) -> BanlothekAnswer
     banlothek::banlothek_draw_standard_geometric(tape)
 }
 
-fn c_deliver_hypergeometric(
+fn c_deliver(
     tape: &[u64],
     book: &mut [u8],
     serial: u32,
-    total: u64,
-    marked: u64,
-    sample: u64,
+    kind: u32,
+    first: u64,
+    second: u64,
+    third: u64,
 ) -> BanlothekAnswer
-    ensures { λ r. ⌜ DeliverTells (now (tape .entry)) (now (book .entry)) serial (Hypergeometric total marked sample) r (now (book .exit)) ⌝ }
+    ensures { λ r. ⌜ DeliverTells (now (tape .entry)) (now (book .entry)) serial kind (first ∷ second ∷ third ∷ []) r (now (book .exit)) ⌝ }
 {
-    banlothek::banlothek_deliver_hypergeometric(tape, book, serial, total, marked, sample)
-}
-
-fn c_deliver_poisson(tape: &[u64], book: &mut [u8], serial: u32, threshold: u64) -> BanlothekAnswer
-    ensures { λ r. ⌜ DeliverTells (now (tape .entry)) (now (book .entry)) serial (Poisson threshold) r (now (book .exit)) ⌝ }
-{
-    banlothek::banlothek_deliver_poisson(tape, book, serial, threshold)
-}
-
-fn c_deliver_geometric(tape: &[u64], book: &mut [u8], serial: u32, p: u64) -> BanlothekAnswer
-    ensures { λ r. ⌜ DeliverTells (now (tape .entry)) (now (book .entry)) serial (Geometric p) r (now (book .exit)) ⌝ }
-{
-    banlothek::banlothek_deliver_geometric(tape, book, serial, p)
-}
-
-fn c_deliver_standard_geometric(tape: &[u64], book: &mut [u8], serial: u32) -> BanlothekAnswer
-    ensures { λ r. ⌜ DeliverTells (now (tape .entry)) (now (book .entry)) serial StandardGeometric r (now (book .exit)) ⌝ }
-{
-    banlothek::banlothek_deliver_standard_geometric(tape, book, serial)
+    banlothek::banlothek_deliver(tape, book, serial, kind, first, second, third)
 }
 
 fn c_strike(tape: &[u64], book: &mut [u8], j: u64) -> BanlothekAnswer
@@ -184,4 +169,10 @@ fn c_redraw(tape: &[u64], book: &[u8]) -> BanlothekAnswer
     ensures { λ r. ⌜ RedrawTells (now (tape .entry)) (now (book .entry)) r ⌝ }
 {
     banlothek::banlothek_redraw(tape, book)
+}
+
+fn c_version() -> u32
+    ensures { λ r. ⌜ r ≡ version ⌝ }
+{
+    banlothek::banlothek_version()
 }

@@ -114,6 +114,26 @@ module _ (k : ℕ) (ps : List ℕ) (r : Request) (many : length ps ≡ parameter
       by-kind (λ o. kindOf k ≡ o → Option·map (λ (x : Kind). x .makes (getD ps 0 0) (getD ps 1 0) (getD ps 2 0)) o ≡ some r → (kindNumber r ≡ k) × (parametersOf r ≡ ps))
       k (λ e q. let z : _≡_ {A = ℕ} 0 1 = cc in absurd (omega arith)) (λ x e l _ q. by-its-kind x e l cc) refl asked
 
+-- of three numbers those past a kind's parameters are not looked at
+module _ (k a b c x y z : ℕ) where
+  made-alike : (m : Kind) → kindOf k ≡ some m → Listed k m → take (m .parameters) (a ∷ b ∷ c ∷ []) ≡ take (m .parameters) (x ∷ y ∷ z ∷ [])
+      → some (m .makes a b c) ≡ some (m .makes x y z)
+  unfolding parametersOf
+  made-alike m e l t =
+      let f = made-of k m e a b c in
+      let g = made-of k m e x y z in
+      sym (request-again (m .makes a b c))
+      ∙ rw (f .0, g .0, l .number, e) (ap (requestOf k) (f .1 ∙ t ∙ sym (g .1)))
+      ∙ request-again (m .makes x y z)
+
+  pub unread : take (parametersIn (kindOf k)) (a ∷ b ∷ c ∷ []) ≡ take (parametersIn (kindOf k)) (x ∷ y ∷ z ∷ [])
+      → requestOf k (a ∷ b ∷ c ∷ []) ≡ requestOf k (x ∷ y ∷ z ∷ [])
+  unfolding requestOf
+  unread =
+      by-kind (λ o. take (parametersIn o) (a ∷ b ∷ c ∷ []) ≡ take (parametersIn o) (x ∷ y ∷ z ∷ [])
+      → Option·map (λ (m : Kind). m .makes a b c) o ≡ Option·map (λ (m : Kind). m .makes x y z) o)
+      k (λ e. refl) (λ m e l t. made-alike m e l t)
+
 -- a kind's number and any parameters make a request
 pub known-request : (k : ℕ) (ps : List ℕ) → 0 < lengthIn (kindOf k) → (r : Request) × (requestOf k ps ≡ some r)
 unfolding requestOf
