@@ -1,7 +1,7 @@
 /*
  * Every function of include/banlothek.h through C: what each accepts, every refusal that it can give, and that a refusal changes no byte.
  * `bindings/c/run test` builds and runs it. It writes each expectation that fails, then how many there were; its status is 0 if none
- * failed.
+ * failed. Deliveries by a kind's name are `banlothek_deliver` of its number.
  */
 #include "banlothek.h"
 
@@ -249,6 +249,80 @@ static void redraw_and_strike(void) {
     expect("an empty book agrees", banlothek_redraw(tape, WORDS, book, ROOM), 0, 0, 0);
 }
 
+/* ---- deliveries by number */
+
+/* Each kind by its number, with parameters that it doesn't have: they are not looked at, so that each call but the first of a kind is a copy. */
+static void by_number(void) {
+    const uint64_t own[4][3] = {{50, 35, 10}, {HALF, 0, 0}, {P_75, 0, 0}, {0, 0, 0}};
+    const uint32_t parameters[4] = {3, 1, 1, 0}, used[4] = {1, 3, 2, 1};
+    const uint64_t count[4] = {10, 2, 1, 63};
+    memset(book, 0, sizeof book);
+    for (uint32_t kind = 1; kind <= 4; kind++) {
+        const uint64_t *p = own[kind - 1];
+        expect("by number", banlothek_deliver(tape, WORDS + 1, book, ROOM, kind, kind, p[0], p[1], p[2]), 0, used[kind - 1], count[kind - 1]);
+        keep();
+        for (uint32_t past = parameters[kind - 1]; past < 3; past++) {
+            uint64_t with[3] = {p[0], p[1], p[2]};
+            with[past] = LAST;
+            expect("past its parameters", banlothek_deliver(tape, WORDS + 1, book, ROOM, kind, kind, with[0], with[1], with[2]), 1,
+                   used[kind - 1], count[kind - 1]);
+        }
+        for (uint32_t within = 0; within < parameters[kind - 1]; within++) {
+            uint64_t with[3] = {p[0], p[1], p[2]};
+            with[within]++;
+            refused_and_kept("within its parameters", banlothek_deliver(tape, WORDS + 1, book, ROOM, kind, kind, with[0], with[1], with[2]),
+                             BANLOTHEK_SERIAL_REUSED);
+        }
+        same("its entry has its kind", (const uint8_t[2]){(uint8_t)kind, 0}, book + (size_t[4]){0, 48, 80, 112}[kind - 1] + 2, 2);
+    }
+    expect("drawn again", banlothek_redraw(tape, WORDS + 1, book, ROOM), 0, 0, 4);
+}
+
+/* A number that is no kind's, over a book where it would be next, a copy and ahead, and where everything else would refuse too. 5 is here until
+ * it is a kind. */
+static void no_such_kind(void) {
+    const uint32_t none[] = {0, 5, 255, 256, 65535, 65536, 65537, 65540, 0x7fffffff, 0x80000001, 0xffffffff};
+    keep();
+    for (size_t i = 0; i < sizeof none / sizeof *none; i++) {
+        const uint32_t kind = none[i];
+        for (uint32_t serial = 0; serial <= 6; serial++)
+            refused_and_kept("no kind", banlothek_deliver(tape, WORDS + 1, book, ROOM, serial, kind, 50, 35, 10), BANLOTHEK_NO_SUCH_KIND);
+        refused_and_kept("no kind with 11", banlothek_deliver(tape, WORDS, book, MOST_BYTES + 1, 1, kind, 50, 35, 10), BANLOTHEK_NO_SUCH_KIND);
+        refused_and_kept("no kind with 1", banlothek_deliver(long_tape, TOO_MANY_WORDS, book, ROOM, 1, kind, LAST, LAST, LAST),
+                         BANLOTHEK_NO_SUCH_KIND);
+        refused_and_kept("no kind with 12", banlothek_deliver(tape, 1, book, ROOM, 1, kind, 0, 0, 0), BANLOTHEK_NO_SUCH_KIND);
+        refused_and_kept("no kind with 15", banlothek_deliver(tape, WORDS, book, 0, 1, kind, 0, 0, 0), BANLOTHEK_NO_SUCH_KIND);
+    }
+}
+
+/* ---- what a caller owes */
+
+/*
+ * Rounding up, as a caller must not leave it: the product of two fractions of 1 - 2^-53 is a last bit higher than to nearest, and so above the
+ * threshold. What is booked so is not what the rules draw, and a redraw to nearest finds it out.
+ */
+static void rounding(void) {
+    const uint64_t words[] = {LAST, LAST, 0}, threshold = 0x3feffffffffffffe;
+    const uint32_t nearest = __builtin_ia32_stmxcsr(), up = (nearest & ~0x6000u) | 0x4000u;
+    memset(book, 0, sizeof book);
+    expect("to nearest", banlothek_draw_poisson(words, 3, threshold), 0, 2, 1);
+    __builtin_ia32_ldmxcsr(up);
+    banlothek_answer drawn = banlothek_draw_poisson(words, 3, threshold);
+    banlothek_answer booked = banlothek_deliver_poisson(words, 3, book, 32, 1, threshold);
+    __builtin_ia32_ldmxcsr(nearest);
+    expect("rounding up", drawn, 0, 3, 2);
+    expect("booked rounding up", booked, 0, 3, 2);
+    refused("redrawn to nearest", banlothek_redraw(words, 3, book, 32), BANLOTHEK_REDRAW_DIFFERS, 1);
+}
+
+static void version(void) {
+    expectations++;
+    if (banlothek_version() != BANLOTHEK_VERSION)
+        fail("the library's version is the header's");
+}
+
+/* ---- worked books */
+
 /* The first worked book, after one standard draw over the word 1. */
 static void worked(void) {
     const uint8_t bytes[24] = {0x18, 0, 4, 0, 1, 0, 0, 0, 0, 0, 0, 0, 1, 0, 0, 0, 0x3f};
@@ -304,6 +378,10 @@ int main(void) {
     keep();
     two_at_once();
     redraw_and_strike();
+    by_number();
+    no_such_kind();
+    rounding();
+    version();
     worked();
     worked_second();
     printf("%d of %d expectations hold\n", expectations - failures, expectations);

@@ -1,2 +1,3 @@
-/* For the kit's clang, which brings no headers: what include/banlothek.h needs of <stddef.h>. */
+/* For the kit's clang, which brings no headers: what the C files here need of <stddef.h>. */
 typedef __SIZE_TYPE__ size_t;
+#define NULL ((void *)0)
