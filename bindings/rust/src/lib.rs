@@ -1,15 +1,41 @@
 //! How many vials of a tray go to the reference scale, drawn from a recorded tape of random words
 //! and kept in a book, so that a copy of a message gets the answer that the message got.
 //!
-//! This is a safe wrapper over `libbanlothek.a`, the face for C of Banlothek. What the library
-//! answers is proved of it for every input: no word, parameter or byte is wrong to pass. Each call
-//! ends, and answers or refuses; a call that is refused changes no byte. The library keeps nothing
-//! between calls and allocates nothing, and neither does this wrapper.
+//! # What keeps a line safe
+//!
+//! 1. The book is on the disk before the answer is used. A call changes the book in memory alone.
+//!    After one that changed it, write it to a new file, sync that file, rename it over the old one
+//!    and sync the folder; then hand the answer on. If a step fails, give no answer and end: the
+//!    next start goes on from the file.
+//! 2. One tape for one book, the same words from the first booking to the last call. Over another
+//!    tape a book can look sound; [`redraw`] finds the first entry that differs (refusal 17).
+//! 3. The same message again after a crash. Whoever has no answer sends the same serial with the
+//!    same request: if it was booked, the answer comes as a copy; if not, it is booked now.
+//! 4. A strike that is sent again strikes again, and takes back bookings that were answered.
+//!    `strike(tape, book, 0)` changes nothing and answers how many entries stand: look first.
+//! 5. One writer for one book: hold a lock while you have it.
+//!
+//! `examples/durable.rs` is a small host that does all of this. It has no strikes.
+//!
+//! # What a caller owes
+//!
+//! Slices meet all that the header asks of pointers. One thing is left, and no function can test
+//! it: the floating-point environment is as a process starts with it, rounding to nearest, nothing
+//! flushed to zero, no exception that traps. Rust itself assumes just that, but code of another
+//! language in the same process may have changed it. The same Poisson draw counted 1 to nearest and
+//! 2 rounding up, and what was booked so was redrawn as 17.
+//!
+//! # The library
+//!
+//! This is a safe wrapper over `libbanlothek.a`, the C functions of Banlothek. What they answer is
+//! proved of them for every input: no word, parameter or byte is wrong to pass. Each call ends, and
+//! answers or refuses; a call that is refused changes no byte. The library keeps nothing between
+//! calls and allocates nothing, and neither does this wrapper.
 //!
 //! The archive is for x86-64 Linux. Elsewhere this crate can be checked and documented, not linked.
 //!
 //! ```
-//! use banlothek::{deliver, redraw, strike, Booked, Refusal, Request};
+//! use banlothek::{deliver, redraw, strike, Refusal, Request};
 //!
 //! // The recorded words, and the book: all zeros at first.
 //! let tape = [9 << 60, 3 << 62, 3 << 62, 3 << 62];
@@ -17,13 +43,13 @@
 //! let tray = Request::Hypergeometric { total: 60, marked: 24, sample: 7 };
 //!
 //! let first = deliver(&tape, &mut book, 1, tray)?;
-//! assert_eq!(first, Booked { count: 3, used: 1, copied: false });
+//! assert_eq!((first.count, first.used, first.copied), (3, 1, false));
 //! let second = deliver(&tape, &mut book, 2, Request::Poisson { threshold: 0.5 })?;
-//! assert_eq!(second, Booked { count: 2, used: 3, copied: false });
+//! assert_eq!((second.count, second.used, second.copied), (2, 3, false));
 //!
 //! // The first message comes again, and gets its count again.
 //! let again = deliver(&tape, &mut book, 1, tray)?;
-//! assert_eq!(again, Booked { copied: true, ..first });
+//! assert_eq!((again.count, again.used, again.copied), (3, 1, true));
 //!
 //! // Drawn again, both entries agree. Then the last is taken back, and one is left.
 //! assert_eq!(redraw(&tape, &book)?, 2);
@@ -36,18 +62,38 @@
 use std::error::Error;
 use std::fmt;
 
-/// What is drawn.
+/// The version of the header that this wrapper was written from.
+///
+/// It grows whenever a function, a kind, a refusal or a field comes or changes.
+pub const VERSION: u32 = 1;
+
+/// The version of the library that is linked. Where it isn't [`VERSION`], the two don't belong
+/// together: a host says so at its start, and ends.
+///
+/// ```
+/// assert_eq!(banlothek::version(), banlothek::VERSION);
+/// ```
+pub fn version() -> u32 {
+    // SAFETY: of what banlothek.h says that a caller owes:
+    // - of pointers nothing: it takes none;
+    // - floating point is as a process starts with it: Rust code may not change that.
+    unsafe { banlothek_version() }
+}
+
+/// What is drawn. Later versions bring more kinds.
 ///
 /// The floats go to the library by their bits, and the book compares them so: `0.0` and `-0.0` are
 /// two requests. That is why requests have no `==` here.
 ///
 /// ```
-/// use banlothek::{draw, Drawn, Request};
+/// use banlothek::{draw, Refusal, Request};
 ///
-/// let request = Request::Poisson { threshold: 0.5 };
-/// assert_eq!(draw(&[3 << 62; 3], request), Ok(Drawn { count: 2, used: 3 }));
+/// let drawn = draw(&[3 << 62; 3], Request::Poisson { threshold: 0.5 })?;
+/// assert_eq!((drawn.count, drawn.used), (2, 3));
+/// # Ok::<(), Refusal>(())
 /// ```
 #[derive(Clone, Copy, Debug)]
+#[non_exhaustive]
 pub enum Request {
     /// How many are marked among things taken without replacement.
     Hypergeometric {
@@ -72,16 +118,30 @@ pub enum Request {
     StandardGeometric,
 }
 
-/// What was drawn.
+impl Request {
+    /// The kind's number and its parameters as the library takes them: floats by their bits, and 0
+    /// where the kind has no more.
+    fn parts(self) -> (u32, [u64; 3]) {
+        match self {
+            Request::Hypergeometric { total, marked, sample } => (1, [total, marked, sample]),
+            Request::Poisson { threshold } => (2, [threshold.to_bits(), 0, 0]),
+            Request::Geometric { p } => (3, [p.to_bits(), 0, 0]),
+            Request::StandardGeometric => (4, [0, 0, 0]),
+        }
+    }
+}
+
+/// What was drawn. Later versions may bring more fields.
 ///
 /// ```
 /// use banlothek::{draw, Drawn, Request};
 ///
-/// let Drawn { count, used } = draw(&[u64::MAX, 0], Request::Geometric { p: 0.75 })?;
+/// let Drawn { count, used, .. } = draw(&[u64::MAX, 0], Request::Geometric { p: 0.75 })?;
 /// assert_eq!((count, used), (1, 2));
 /// # Ok::<(), banlothek::Refusal>(())
 /// ```
 #[derive(Clone, Copy, Debug, PartialEq, Eq, Hash)]
+#[non_exhaustive]
 pub struct Drawn {
     /// The count.
     pub count: u64,
@@ -89,17 +149,19 @@ pub struct Drawn {
     pub used: u32,
 }
 
-/// What a delivery was answered: what was drawn for its serial, now or before.
+/// What a delivery was answered: what was drawn for its serial, now or before. Later versions may
+/// bring more fields.
 ///
 /// ```
-/// use banlothek::{deliver, Booked, Request};
+/// use banlothek::{deliver, Request};
 ///
 /// let mut book = [0; 32];
 /// let booked = deliver(&[3 << 62; 3], &mut book, 1, Request::Poisson { threshold: 0.5 })?;
-/// assert_eq!(booked, Booked { count: 2, used: 3, copied: false });
+/// assert_eq!((booked.count, booked.used, booked.copied), (2, 3, false));
 /// # Ok::<(), banlothek::Refusal>(())
 /// ```
 #[derive(Clone, Copy, Debug, PartialEq, Eq, Hash)]
+#[non_exhaustive]
 pub struct Booked {
     /// The count.
     pub count: u64,
@@ -114,6 +176,9 @@ pub struct Booked {
 /// A refusal is given exactly when its condition holds and none before it in the call's order does;
 /// each function lists its order.
 ///
+/// Later versions bring more. A number that this wrapper has no name for comes as
+/// [`Refusal::Unknown`]; a later wrapper may name it, so keep and compare [`Refusal::number`].
+///
 /// ```
 /// use banlothek::{draw, Refusal, Request};
 ///
@@ -122,6 +187,7 @@ pub struct Booked {
 /// assert_eq!(refusal.to_string(), "refused 8: p is not in 0 to 1");
 /// ```
 #[derive(Clone, Copy, Debug, PartialEq, Eq, Hash)]
+#[non_exhaustive]
 pub enum Refusal {
     /// 1: the tape has more than 1,048,576 words.
     TapeTooLong,
@@ -160,16 +226,24 @@ pub enum Refusal {
         /// The lowest serial of such an entry.
         serial: u32,
     },
+    /// 100: the library does not know the request's kind: it is older than this wrapper.
+    NoSuchKind,
+    /// Any other number: the library is newer than this wrapper.
+    Unknown {
+        /// The number that the library gave.
+        number: u32,
+    },
 }
 
 impl Refusal {
-    /// The refusal's number, 1 to 17.
+    /// The refusal's number, as in the header.
     ///
     /// ```
     /// use banlothek::Refusal;
     ///
     /// assert_eq!(Refusal::SerialAhead.number(), 13);
     /// assert_eq!(Refusal::RedrawDiffers { serial: 4 }.number(), 17);
+    /// assert_eq!(Refusal::Unknown { number: 4_000_000_000 }.number(), 4_000_000_000);
     /// ```
     pub const fn number(self) -> u32 {
         match self {
@@ -190,10 +264,12 @@ impl Refusal {
             Refusal::BookFull => 15,
             Refusal::StrikeTooMany => 16,
             Refusal::RedrawDiffers { .. } => 17,
+            Refusal::NoSuchKind => 100,
+            Refusal::Unknown { number } => number,
         }
     }
 
-    /// The refusal of a number; the serial goes with 17. The library gives no other number.
+    /// The refusal of a number; the serial goes with 17.
     fn numbered(number: u32, serial: u32) -> Refusal {
         match number {
             1 => Refusal::TapeTooLong,
@@ -213,7 +289,8 @@ impl Refusal {
             15 => Refusal::BookFull,
             16 => Refusal::StrikeTooMany,
             17 => Refusal::RedrawDiffers { serial },
-            _ => unreachable!("libbanlothek has no refusal {number}"),
+            100 => Refusal::NoSuchKind,
+            _ => Refusal::Unknown { number },
         }
     }
 
@@ -237,6 +314,8 @@ impl Refusal {
             Refusal::BookFull => "the entry is longer than the room left",
             Refusal::StrikeTooMany => "the strike is of more entries than there are",
             Refusal::RedrawDiffers { .. } => "is not what its request draws",
+            Refusal::NoSuchKind => "the library does not know this kind of draw",
+            Refusal::Unknown { .. } => "a refusal that this wrapper does not know",
         }
     }
 }
@@ -261,11 +340,13 @@ impl Error for Refusal {}
 /// (hypergeometric), 7 (Poisson), 8, 9 (geometric), none (standard geometric).
 ///
 /// ```
-/// use banlothek::{draw, Drawn, Refusal, Request};
+/// use banlothek::{draw, Refusal, Request};
 ///
 /// let tray = Request::Hypergeometric { total: 50, marked: 35, sample: 10 };
-/// assert_eq!(draw(&[0], tray), Ok(Drawn { count: 10, used: 1 }));
+/// let drawn = draw(&[0], tray)?;
+/// assert_eq!((drawn.count, drawn.used), (10, 1));
 /// assert_eq!(draw(&[], tray), Err(Refusal::Exhausted));
+/// # Ok::<(), Refusal>(())
 /// ```
 pub fn draw(tape: &[u64], request: Request) -> Result<Drawn, Refusal> {
     let (words, tape) = (tape.len(), tape.as_ptr());
@@ -274,14 +355,13 @@ pub fn draw(tape: &[u64], request: Request) -> Result<Drawn, Refusal> {
     // - the tape is aligned to 8 bytes: a slice of u64 is, on x86-64;
     // - the tape can be read for `words` words: the slice is lent for the whole call;
     // - a tape and a book that is written do not overlap: there is no book;
-    // - nothing else writes the tape meanwhile: it is lent as shared.
+    // - nothing else writes the tape meanwhile: it is lent as shared;
+    // - floating point is as a process starts with it: Rust code may not change that.
     let answer = unsafe {
         match request {
-            Request::Hypergeometric {
-                total,
-                marked,
-                sample,
-            } => banlothek_draw_hypergeometric(tape, words, total, marked, sample),
+            Request::Hypergeometric { total, marked, sample } => {
+                banlothek_draw_hypergeometric(tape, words, total, marked, sample)
+            }
             Request::Poisson { threshold } => {
                 banlothek_draw_poisson(tape, words, threshold.to_bits())
             }
@@ -302,27 +382,56 @@ pub fn draw(tape: &[u64], request: Request) -> Result<Drawn, Refusal> {
 /// changes nothing; it is answered in a full book and at the tape's end too.
 ///
 /// The order of refusals is 1, 11, 12, 13, then a copy is answered or refused by 14, then those of
-/// the request as for [`draw`], 15, 10.
+/// the request as for [`draw`], 15, 10. Before all of these a library that doesn't know the
+/// request's kind refuses it by 100.
 ///
 /// ```
-/// use banlothek::{deliver, Booked, Refusal, Request};
+/// use banlothek::{deliver, Refusal, Request};
 ///
 /// let mut book = [0; 32];
 /// let request = Request::Geometric { p: 0.75 };
-/// let booked = Booked { count: 1, used: 2, copied: false };
-/// assert_eq!(deliver(&[u64::MAX, 0], &mut book, 1, request), Ok(booked));
+/// let booked = deliver(&[u64::MAX, 0], &mut book, 1, request)?;
+/// assert_eq!((booked.count, booked.used, booked.copied), (1, 2, false));
 ///
 /// // A copy is answered, though the book is full; the serial for another request is not.
-/// let copied = Booked { copied: true, ..booked };
-/// assert_eq!(deliver(&[u64::MAX, 0], &mut book, 1, request), Ok(copied));
+/// let again = deliver(&[u64::MAX, 0], &mut book, 1, request)?;
+/// assert_eq!((again.count, again.used, again.copied), (1, 2, true));
 /// let other = deliver(&[u64::MAX, 0], &mut book, 1, Request::Geometric { p: 0.7 });
 /// assert_eq!(other, Err(Refusal::SerialReused));
+/// # Ok::<(), Refusal>(())
 /// ```
 pub fn deliver(
     tape: &[u64],
     book: &mut [u8],
     serial: u32,
     request: Request,
+) -> Result<Booked, Refusal> {
+    let (kind, parameters) = request.parts();
+    deliver_kind(tape, book, serial, kind, parameters)
+}
+
+/// The same by the kind's number, for a host that is handed one: a kind to come changes nothing
+/// here.
+///
+/// Floats stand in the parameters by their bits; those that the kind doesn't have are not looked at.
+/// A number that is no kind of the library's is refused by 100 before all else.
+///
+/// ```
+/// use banlothek::{deliver_kind, Refusal};
+///
+/// let mut book = [0; 48];
+/// let booked = deliver_kind(&[9 << 60], &mut book, 1, 1, [60, 24, 7])?;
+/// assert_eq!((booked.count, booked.used, booked.copied), (3, 1, false));
+/// let none = deliver_kind(&[9 << 60], &mut book, 2, 4_000_000_000, [60, 24, 7]);
+/// assert_eq!(none, Err(Refusal::NoSuchKind));
+/// # Ok::<(), Refusal>(())
+/// ```
+pub fn deliver_kind(
+    tape: &[u64],
+    book: &mut [u8],
+    serial: u32,
+    kind: u32,
+    [a, b, c]: [u64; 3],
 ) -> Result<Booked, Refusal> {
     let (words, tape) = (tape.len(), tape.as_ptr());
     let (bytes, book) = (book.len(), book.as_mut_ptr());
@@ -332,40 +441,24 @@ pub fn deliver(
     // - the tape can be read for `words` words, the book read and written for `bytes` bytes: both
     //   slices are lent for the whole call, the book as exclusive;
     // - a tape and a book that is written do not overlap: an exclusive slice overlaps no other;
-    // - nothing else writes either meanwhile: the tape is lent as shared, the book as exclusive.
-    let answer = unsafe {
-        match request {
-            Request::Hypergeometric {
-                total,
-                marked,
-                sample,
-            } => banlothek_deliver_hypergeometric(
-                tape, words, book, bytes, serial, total, marked, sample,
-            ),
-            Request::Poisson { threshold } => {
-                banlothek_deliver_poisson(tape, words, book, bytes, serial, threshold.to_bits())
-            }
-            Request::Geometric { p } => {
-                banlothek_deliver_geometric(tape, words, book, bytes, serial, p.to_bits())
-            }
-            Request::StandardGeometric => {
-                banlothek_deliver_standard_geometric(tape, words, book, bytes, serial)
-            }
-        }
-    };
+    // - nothing else writes either meanwhile: the tape is lent as shared, the book as exclusive;
+    // - floating point is as a process starts with it: Rust code may not change that.
+    let answer = unsafe { banlothek_deliver(tape, words, book, bytes, serial, kind, a, b, c) };
     answer.accepted().map(Answer::booked)
 }
 
 /// Takes the last `j` entries back, and answers how many are left.
 ///
 /// Their bytes become 0, and no other byte changes. Their serials are fresh again, over the same
-/// words. `j` may be 0. The order of refusals is 1, 11, 12, 16.
+/// words. A strike that is sent again strikes again. With `j` 0 nothing changes, and the answer is
+/// how many entries stand. The order of refusals is 1, 11, 12, 16.
 ///
 /// ```
 /// use banlothek::{deliver, strike, Refusal, Request};
 ///
 /// let mut book = [0; 32];
 /// deliver(&[1], &mut book, 1, Request::Geometric { p: 0.75 })?;
+/// assert_eq!(strike(&[1], &mut book, 0), Ok(1));
 /// assert_eq!(strike(&[1], &mut book, 2), Err(Refusal::StrikeTooMany));
 /// assert_eq!(strike(&[1], &mut book, 1), Ok(0));
 /// assert_eq!(book, [0; 32]);
@@ -380,7 +473,8 @@ pub fn strike(tape: &[u64], book: &mut [u8], j: u64) -> Result<u64, Refusal> {
     // - the tape can be read for `words` words, the book read and written for `bytes` bytes: both
     //   slices are lent for the whole call, the book as exclusive;
     // - a tape and a book that is written do not overlap: an exclusive slice overlaps no other;
-    // - nothing else writes either meanwhile: the tape is lent as shared, the book as exclusive.
+    // - nothing else writes either meanwhile: the tape is lent as shared, the book as exclusive;
+    // - floating point is as a process starts with it: Rust code may not change that.
     let answer = unsafe { banlothek_strike(tape, words, book, bytes, j) };
     answer.accepted().map(|accepted| accepted.count)
 }
@@ -410,12 +504,13 @@ pub fn redraw(tape: &[u64], book: &[u8]) -> Result<u64, Refusal> {
     // - the tape can be read for `words` words and the book for `bytes` bytes: both slices are lent
     //   for the whole call; this book is const, and needn't be written;
     // - a tape and a book that is written do not overlap: neither is written;
-    // - nothing else writes either meanwhile: both are lent as shared.
+    // - nothing else writes either meanwhile: both are lent as shared;
+    // - floating point is as a process starts with it: Rust code may not change that.
     let answer = unsafe { banlothek_redraw(tape, words, book, bytes) };
     answer.accepted().map(|accepted| accepted.count)
 }
 
-/// What every function of the library answers: `banlothek_answer` of the header.
+/// What every other function of the library answers: `banlothek_answer` of the header.
 #[repr(C)]
 struct Answer {
     refusal: u32,
@@ -435,23 +530,17 @@ impl Answer {
     }
 
     fn drawn(self) -> Drawn {
-        Drawn {
-            count: self.count,
-            used: self.used,
-        }
+        Drawn { count: self.count, used: self.used }
     }
 
     fn booked(self) -> Booked {
-        Booked {
-            count: self.count,
-            used: self.used,
-            copied: self.copied != 0,
-        }
+        Booked { count: self.count, used: self.used, copied: self.copied != 0 }
     }
 }
 
 // The functions of include/banlothek.h, in its order.
 extern "C" {
+    fn banlothek_version() -> u32;
     fn banlothek_draw_hypergeometric(
         tape: *const u64,
         words: usize,
@@ -462,38 +551,16 @@ extern "C" {
     fn banlothek_draw_poisson(tape: *const u64, words: usize, threshold_bits: u64) -> Answer;
     fn banlothek_draw_geometric(tape: *const u64, words: usize, p_bits: u64) -> Answer;
     fn banlothek_draw_standard_geometric(tape: *const u64, words: usize) -> Answer;
-    fn banlothek_deliver_hypergeometric(
+    fn banlothek_deliver(
         tape: *const u64,
         words: usize,
         book: *mut u8,
         bytes: usize,
         serial: u32,
-        total: u64,
-        marked: u64,
-        sample: u64,
-    ) -> Answer;
-    fn banlothek_deliver_poisson(
-        tape: *const u64,
-        words: usize,
-        book: *mut u8,
-        bytes: usize,
-        serial: u32,
-        threshold_bits: u64,
-    ) -> Answer;
-    fn banlothek_deliver_geometric(
-        tape: *const u64,
-        words: usize,
-        book: *mut u8,
-        bytes: usize,
-        serial: u32,
-        p_bits: u64,
-    ) -> Answer;
-    fn banlothek_deliver_standard_geometric(
-        tape: *const u64,
-        words: usize,
-        book: *mut u8,
-        bytes: usize,
-        serial: u32,
+        kind: u32,
+        a: u64,
+        b: u64,
+        c: u64,
     ) -> Answer;
     fn banlothek_strike(
         tape: *const u64,
@@ -505,9 +572,10 @@ extern "C" {
     fn banlothek_redraw(tape: *const u64, words: usize, book: *const u8, bytes: usize) -> Answer;
 }
 
-/// The README's example is run with the others.
+/// The examples of this crate's README, and of the repository's, are run with the others.
 #[cfg(doctest)]
 #[doc = include_str!("../README.md")]
+#[doc = include_str!("../../../README.md")]
 struct Readme;
 
 #[cfg(test)]
@@ -517,13 +585,7 @@ mod tests {
     use std::ptr::addr_of;
 
     fn refused(refusal: u32, serial: u32) -> Answer {
-        Answer {
-            refusal,
-            copied: 0,
-            serial,
-            used: 0,
-            count: 0,
-        }
+        Answer { refusal, copied: 0, serial, used: 0, count: 0 }
     }
 
     #[test]
@@ -545,10 +607,11 @@ mod tests {
     }
 
     #[test]
-    fn every_number_is_a_refusal_of_that_number() {
-        for number in 1..=17 {
+    fn every_number_of_the_header_has_its_name() {
+        for number in (1..=17).chain([100]) {
             let refusal = refused(number, 4).accepted().err().unwrap();
             assert_eq!(refusal.number(), number);
+            assert_ne!(refusal, Refusal::Unknown { number });
             let said = refusal.to_string();
             assert!(said.starts_with(&format!("refused {number}: ")));
         }
@@ -558,15 +621,55 @@ mod tests {
     fn the_serial_goes_with_17() {
         let refusal = refused(17, 4).accepted().err().unwrap();
         assert_eq!(refusal, Refusal::RedrawDiffers { serial: 4 });
+        assert_eq!(refusal.to_string(), "refused 17: serial 4 is not what its request draws");
+    }
+
+    /// Whether this wrapper knows the number or not: what comes out is a value that has it.
+    #[test]
+    fn any_number_is_a_refusal_of_that_number() {
+        for number in [18, 99, 101, 4_000_000_000, u32::MAX] {
+            let refusal = refused(number, 4).accepted().err().unwrap();
+            assert_eq!(refusal.number(), number);
+            let said = refusal.to_string();
+            assert!(said.starts_with(&format!("refused {number}: ")));
+        }
+    }
+
+    #[test]
+    fn a_number_that_has_no_name() {
+        let number = 4_000_000_000;
+        let refusal = refused(number, 4).accepted().err().unwrap();
+        assert_eq!(refusal, Refusal::Unknown { number });
         assert_eq!(
             refusal.to_string(),
-            "refused 17: serial 4 is not what its request draws"
+            "refused 4000000000: a refusal that this wrapper does not know"
         );
     }
 
     #[test]
-    #[should_panic(expected = "libbanlothek has no refusal 4294967295")]
-    fn a_number_that_is_no_refusal() {
-        let _ = refused(u32::MAX, 0).accepted();
+    fn a_request_by_its_parts() {
+        let tray = Request::Hypergeometric { total: 60, marked: 24, sample: 7 };
+        assert_eq!(tray.parts(), (1, [60, 24, 7]));
+        // A signalling NaN, whose bits pass too.
+        for bits in [0x3fe0_0000_0000_0000, 1 << 63, 0xfff0_0000_0000_0001] {
+            let (threshold, p) = (f64::from_bits(bits), f64::from_bits(bits));
+            assert_eq!(Request::Poisson { threshold }.parts(), (2, [bits, 0, 0]));
+            assert_eq!(Request::Geometric { p }.parts(), (3, [bits, 0, 0]));
+        }
+        assert_eq!(Request::StandardGeometric.parts(), (4, [0, 0, 0]));
+    }
+
+    /// What a request of a later wrapper meets in this library, whatever else is wrong with it.
+    #[test]
+    fn a_kind_that_the_library_does_not_know() {
+        let long_tape = vec![0; 1_048_577];
+        let mut book = [7; 32];
+        for kind in [0, 4_000_000_000, u32::MAX] {
+            for tape in [&[1][..], &long_tape] {
+                let answer = deliver_kind(tape, &mut book, 1, kind, [0; 3]);
+                assert_eq!(answer, Err(Refusal::NoSuchKind));
+            }
+        }
+        assert_eq!(book, [7; 32]);
     }
 }

@@ -3,7 +3,7 @@
 
 use banlothek::Refusal::*;
 use banlothek::Request::{Geometric, Poisson, StandardGeometric};
-use banlothek::{deliver, draw, redraw, strike, Booked, Drawn, Refusal, Request};
+use banlothek::{redraw, strike, version, Refusal, Request, VERSION};
 
 const TOP: u64 = 1 << 63;
 const THREE_QUARTERS: u64 = 3 << 62;
@@ -27,11 +27,7 @@ fn nans() -> impl Iterator<Item = f64> {
 }
 
 fn tray(total: u64, marked: u64, sample: u64) -> Request {
-    Request::Hypergeometric {
-        total,
-        marked,
-        sample,
-    }
+    Request::Hypergeometric { total, marked, sample }
 }
 
 fn poisson(threshold: f64) -> Request {
@@ -42,24 +38,37 @@ fn geometric(p: f64) -> Request {
     Geometric { p }
 }
 
-fn drawn(count: u64, used: u32) -> Result<Drawn, Refusal> {
-    Ok(Drawn { count, used })
+/// A draw by its count and the words that it used.
+fn draw(tape: &[u64], request: Request) -> Result<(u64, u32), Refusal> {
+    banlothek::draw(tape, request).map(|drawn| (drawn.count, drawn.used))
 }
 
-fn fresh(count: u64, used: u32) -> Result<Booked, Refusal> {
-    Ok(Booked {
-        count,
-        used,
-        copied: false,
-    })
+fn drawn(count: u64, used: u32) -> Result<(u64, u32), Refusal> {
+    Ok((count, used))
 }
 
-fn copy(count: u64, used: u32) -> Result<Booked, Refusal> {
-    Ok(Booked {
-        count,
-        used,
-        copied: true,
-    })
+/// A delivery by its count, the words that its draw used, and whether it is a copy.
+fn deliver(
+    tape: &[u64],
+    book: &mut [u8],
+    serial: u32,
+    request: Request,
+) -> Result<(u64, u32, bool), Refusal> {
+    banlothek::deliver(tape, book, serial, request)
+        .map(|booked| (booked.count, booked.used, booked.copied))
+}
+
+fn fresh(count: u64, used: u32) -> Result<(u64, u32, bool), Refusal> {
+    Ok((count, used, false))
+}
+
+fn copy(count: u64, used: u32) -> Result<(u64, u32, bool), Refusal> {
+    Ok((count, used, true))
+}
+
+#[test]
+fn the_version_is_that_of_the_header() {
+    assert_eq!(version(), VERSION);
 }
 
 // ---- draws
@@ -83,10 +92,7 @@ fn hypergeometric_refusals() {
     assert_eq!(draw(&[0], tray(10, 3, 11)), Err(SampleSizeTooLarge));
     assert_eq!(draw(&[0], tray(1_048_577, 3, 3)), Err(CapExceeded));
     assert_eq!(draw(&[0], tray(98, 39, 24)), Err(ModeTooHigh));
-    assert_eq!(
-        draw(&[0], tray(1_048_576, 3000, 3000)),
-        Err(PopulationTooLarge)
-    );
+    assert_eq!(draw(&[0], tray(1_048_576, 3000, 3000)), Err(PopulationTooLarge));
     assert_eq!(draw(&[], tray(60, 24, 7)), Err(Exhausted));
     assert_eq!(draw(&[], tray(LAST, LAST, LAST)), Err(CapExceeded));
 }
@@ -144,12 +150,7 @@ fn standard_geometric_draws_and_refusals() {
 #[test]
 fn a_tape_too_long_comes_first() {
     let tape = vec![LAST; MOST_WORDS + 1];
-    for request in [
-        tray(1, 2, 0),
-        poisson(f64::NAN),
-        geometric(f64::NAN),
-        StandardGeometric,
-    ] {
+    for request in [tray(1, 2, 0), poisson(f64::NAN), geometric(f64::NAN), StandardGeometric] {
         assert_eq!(draw(&tape, request), Err(TapeTooLong));
     }
     assert_eq!(draw(&tape[1..], tray(9, 3, 4)), drawn(3, 1));
@@ -158,15 +159,7 @@ fn a_tape_too_long_comes_first() {
 // ---- the book
 
 /// One word is for serial 1, three, two and one for the next; none is left.
-const TAPE: [u64; 7] = [
-    0,
-    THREE_QUARTERS,
-    THREE_QUARTERS,
-    THREE_QUARTERS,
-    LAST,
-    0,
-    1,
-];
+const TAPE: [u64; 7] = [0, THREE_QUARTERS, THREE_QUARTERS, THREE_QUARTERS, LAST, 0, 1];
 
 /// The bytes of four entries: a tray, a Poisson and a geometric pull, and another tray.
 const ROOM: usize = 48 + 32 + 32 + 48;
@@ -226,12 +219,9 @@ fn floats_go_by_their_bits() {
 #[test]
 fn serials_ahead() {
     let mut book = filled(ROOM);
-    for (serial, request) in [
-        (0, tray(50, 35, 10)),
-        (6, poisson(0.5)),
-        (7, geometric(0.5)),
-        (u32::MAX, geometric(0.5)),
-    ] {
+    for (serial, request) in
+        [(0, tray(50, 35, 10)), (6, poisson(0.5)), (7, geometric(0.5)), (u32::MAX, geometric(0.5))]
+    {
         assert_eq!(refused(&TAPE, &mut book, serial, request), SerialAhead);
     }
 }
@@ -239,11 +229,7 @@ fn serials_ahead() {
 /// One byte of room too few is BookFull; in the room that it needs the draw finds no word.
 #[test]
 fn a_full_book_and_a_tape_at_its_end() {
-    for (length, request) in [
-        (48, tray(50, 35, 10)),
-        (32, poisson(0.5)),
-        (32, geometric(0.5)),
-    ] {
+    for (length, request) in [(48, tray(50, 35, 10)), (32, poisson(0.5)), (32, geometric(0.5))] {
         let mut book = filled(ROOM + length);
         let short = &mut book[..ROOM + length - 1];
         assert_eq!(refused(&TAPE, short, 5, request), BookFull);
@@ -257,19 +243,13 @@ fn a_full_book_and_a_tape_at_its_end() {
 fn standard_geometric_deliveries() {
     let tape = [&TAPE[..], &[1]].concat();
     let mut book = filled(ROOM + 24);
-    assert_eq!(
-        refused(&TAPE, &mut book, 1, StandardGeometric),
-        SerialReused
-    );
+    assert_eq!(refused(&TAPE, &mut book, 1, StandardGeometric), SerialReused);
     assert_eq!(refused(&TAPE, &mut book, 6, StandardGeometric), SerialAhead);
     let short = &mut book[..ROOM + 23];
     assert_eq!(refused(&TAPE, short, 5, StandardGeometric), BookFull);
     assert_eq!(refused(&TAPE, &mut book, 5, StandardGeometric), Exhausted);
 
-    assert_eq!(
-        deliver(&tape, &mut book, 5, StandardGeometric),
-        fresh(63, 1)
-    );
+    assert_eq!(deliver(&tape, &mut book, 5, StandardGeometric), fresh(63, 1));
     assert_eq!(deliver(&tape, &mut book, 5, StandardGeometric), copy(63, 1));
     assert_eq!(refused(&tape, &mut book, 5, poisson(0.5)), SerialReused);
     assert_eq!(redraw(&tape, &book), Ok(5));
@@ -360,9 +340,7 @@ fn struck_and_fresh_again() {
 #[test]
 fn the_bytes_of_an_entry() {
     let mut book = [0; 24];
-    let entry = [
-        0x18, 0, 4, 0, 1, 0, 0, 0, 0, 0, 0, 0, 1, 0, 0, 0, 0x3f, 0, 0, 0, 0, 0, 0, 0,
-    ];
+    let entry = [0x18, 0, 4, 0, 1, 0, 0, 0, 0, 0, 0, 0, 1, 0, 0, 0, 0x3f, 0, 0, 0, 0, 0, 0, 0];
     assert_eq!(deliver(&[1], &mut book, 1, StandardGeometric), fresh(63, 1));
     assert_eq!(book, entry);
 }
@@ -370,8 +348,5 @@ fn the_bytes_of_an_entry() {
 #[test]
 fn a_refusal_is_an_error() {
     let refusal: Box<dyn std::error::Error + Send + Sync> = SerialAhead.into();
-    assert_eq!(
-        refusal.to_string(),
-        "refused 13: the serial is 0 or above the next"
-    );
+    assert_eq!(refusal.to_string(), "refused 13: the serial is 0 or above the next");
 }

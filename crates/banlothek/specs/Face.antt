@@ -40,7 +40,7 @@ naming (refused n) s = refusedBy n s
 abbrev pub ofRedraw : Redrawing → BanlothekAnswer
 ofRedraw r = naming (r .outcome) (Option·getD (r .named) 0)
 
--- a number of these functions alone: that what stands for a kind is no kind's number
+-- what a number that is no kind's is refused with: of these functions alone, and no refusal of the rules
 abbrev pub noSuchKind : ℕ
 noSuchKind = 100
 
