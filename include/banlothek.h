@@ -25,13 +25,13 @@
  *   - a tape and a book that is written do not overlap (a redraw writes neither);
  *   - nothing else writes either during the call;
  *   - floating point is as a process starts with it: rounding to nearest, nothing flushed to zero, no exception that traps. (The same Poisson
- *     draw counted 1 to nearest and 2 rounding up, and what was booked so was redrawn as 17. `bindings/c/test.c` has the case.)
+ *     draw counted 1 to nearest and 2 rounding up, and a redraw to nearest refused what was booked so, by 17: `bindings/c/test.c` has the case.)
  *
  * What these functions answer is proved of them for every input that meets this: no parameter, word or byte is wrong to pass. Each call ends,
  * and answers or refuses by one number. docs/PUBLIC.md names the contract of each.
  *
  * Link with libbanlothek.a, which `rt staticlib banlothek` writes for x86-64 Linux. It needs a memset and nothing else, keeps nothing between
- * calls, allocates nothing, and calls nothing back.
+ * calls, allocates nothing, and calls nothing back. This header is C99, and C++.
  */
 #ifndef BANLOTHEK_H
 #define BANLOTHEK_H
@@ -45,7 +45,7 @@ extern "C" {
 
 /*
  * Which functions these are: a number that grows whenever a function, a kind, a refusal or a field comes or changes. The library has its own;
- * where the two differ, header and library don't belong together.
+ * where the two differ, header and library don't belong together, and nothing else may be called: the struct below may have another size.
  */
 #define BANLOTHEK_VERSION 1
 uint32_t banlothek_version(void);

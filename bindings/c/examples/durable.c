@@ -1,7 +1,7 @@
 /*
  * durable TAPE BOOK: a host that keeps its word. It reads lines `serial kind a b c` (whole numbers, floats by their bits), delivers each into
  * the book, and answers only after the book is on the disk: written to BOOK.new, synced, renamed over BOOK, the folder synced. So it can be
- * killed at any moment: what it answered is in the book, and a message without an answer is sent again.
+ * killed at any moment: what it answered is in the book, and a message without an answer is sent again. BOOK.new and BOOK.lock are its own.
  *
  * `bindings/c/run durable TAPE BOOK` builds and runs it; with a compiler of your own:
  * cc -I include bindings/c/examples/durable.c target/staticlib/libbanlothek.a -o durable
@@ -15,10 +15,9 @@
 #include <string.h>
 #include <sys/file.h>
 #include <unistd.h>
-
 #include "banlothek.h"
 
-enum { MOST_WORDS = 1048576, MOST_BYTES = 65536 };
+enum { MOST_WORDS = 1048576, MOST_BYTES = 65536, MOST_LINE = 256 };
 
 /* One more of each than there may be, so that a file that is too long is seen. */
 static uint64_t tape[MOST_WORDS + 1];
@@ -38,9 +37,9 @@ static int sync_folder(void) {
     return folder >= 0 && fsync(folder) == 0 && close(folder) == 0;
 }
 
-/* The book in memory becomes the file. Until the rename the old file is whole, after it the new one. */
+/* The book in memory becomes the file: until the rename the old one is whole, after it the new one. A leftover, or a link, is not written into. */
 static void store(void) {
-    FILE *file = fopen(new_name, "wb");
+    FILE *file = unlink(new_name) == 0 || errno == ENOENT ? fopen(new_name, "wbx") : NULL;
     if (!file || fwrite(book, 1, bytes, file) != bytes || fflush(file) != 0 || fsync(fileno(file)) != 0 || fclose(file) != 0 ||
         rename(new_name, book_name) != 0 || !sync_folder())
         end("unwritten");
@@ -53,11 +52,11 @@ static char *beside_book(const char *ending) {
     return strcat(strcpy(name, book_name), ending);
 }
 
-/* One writer for one book. The lock goes with the process, however that ends; its file stays. */
+/* One writer for one book. The lock goes with the process, however that ends; its file stays. It must not get the place of a closed output. */
 static void lock(void) {
     int file = open(beside_book(".lock"), O_WRONLY | O_CREAT, 0666);
-    if (file < 0 || flock(file, LOCK_EX | LOCK_NB) != 0)
-        end(file < 0 ? "unwritten" : "in use");
+    if (file < 3 || flock(file, LOCK_EX | LOCK_NB) != 0)
+        end(file < 3 ? "unwritten" : "in use");
 }
 
 /* The bytes of a file that has fewer than `most`. */
@@ -75,11 +74,11 @@ static void load_tape(const char *name) {
     words = n / 8;
 }
 
-/* A book that is missing is made, all zeros; one that can't be read is left alone. An earlier run may have ended between its rename and the
- * folder's sync: what is answered from here has to be on the disk. */
+/* A book that is missing is made, all zeros; one that can't be read, or a link to none, is left alone. An earlier run may have ended between
+ * its rename and the folder's sync: what is answered from here has to be on the disk. */
 static void load_book(void) {
     FILE *file = fopen(book_name, "rb");
-    if (!file && errno == ENOENT) {
+    if (!file && errno == ENOENT && readlink(book_name, (char *)book, 1) < 0) {
         bytes = MOST_BYTES;
         store();
         return;
@@ -106,10 +105,10 @@ static int read_line(const char *at, uint64_t number[5]) {
     return number[0] <= UINT32_MAX && number[1] <= UINT32_MAX;
 }
 
-/* A fresh booking is answered after it is stored. A line that was cut off has no newline, and is not read. */
+/* A fresh booking is answered after it is stored. A line that was cut off has no newline, and is none. */
 static void serve(const char *line, unsigned long count) {
     uint64_t n[5];
-    if (!read_line(line, n)) {
+    if (strlen(line) > MOST_LINE || !read_line(line, n)) {
         printf("unread line %lu\n", count);
         return;
     }
@@ -123,7 +122,7 @@ static void serve(const char *line, unsigned long count) {
 }
 
 int main(int argc, char **argv) {
-    if (argc != 3)
+    if (argc != 3 || !*argv[2])
         end("usage: durable TAPE BOOK");
     if (banlothek_version() != BANLOTHEK_VERSION)
         end("the library is not this header's");
@@ -134,13 +133,14 @@ int main(int argc, char **argv) {
     lock();
     load_tape(argv[1]);
     load_book();
-    if (banlothek_redraw(tape, words, book, bytes).refusal)
-        end("unfit"); /* the book is damaged, or was drawn from another tape */
+    uint32_t unfit = banlothek_redraw(tape, words, book, bytes).refusal;
+    if (unfit)
+        end(unfit == BANLOTHEK_REDRAW_DIFFERS ? "unfit: not drawn from this tape" : "unfit: damaged");
     char *line = NULL;
     size_t room = 0;
-    for (unsigned long count = 1; getline(&line, &room, stdin) > 0; count++) {
+    for (unsigned long count = 1; !feof(stdin) && getline(&line, &room, stdin) > 0; count++) {
         serve(line, count);
-        if (fflush(stdout) != 0)
+        if (fflush(stdout) != 0 || ferror(stdout))
             end("unwritten answer");
     }
     if (!feof(stdin))

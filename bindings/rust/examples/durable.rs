@@ -1,5 +1,6 @@
 //! durable TAPE BOOK: a host that keeps its word. It reads a delivery from each line of standard
-//! input, `serial kind a b c`, and has what it booked on the disk before it answers.
+//! input, `serial kind a b c`, and has what it booked on the disk before it answers. BOOK.new and
+//! BOOK.lock are its own.
 
 use banlothek::{deliver_kind, redraw, version, Booked, Refusal, VERSION};
 use std::fs::{self, File};
@@ -52,6 +53,9 @@ fn serve(tape: &[u64], book: &Path, bytes: &mut [u8]) -> Result<(), &'static str
             }
         };
         writeln!(output, "{said}").and_then(|()| output.flush()).map_err(|_| "unwritten answer")?;
+        if !line.ends_with(b"\n") {
+            break; // what may follow would be the rest of this message, and no line of its own
+        }
     }
     Ok(())
 }
@@ -130,7 +134,8 @@ fn load(book: &Path) -> Result<Vec<u8>, &'static str> {
 /// Replaces the book's file. Cut short at any moment, it leaves the old book or the new one.
 fn store(book: &Path, bytes: &[u8]) -> io::Result<()> {
     let next = beside(book, ".new");
-    let mut file = File::create(&next)?;
+    let _ = fs::remove_file(&next); // a leftover, or a link, is not written into
+    let mut file = File::options().write(true).create_new(true).open(&next)?;
     file.write_all(bytes)?;
     file.sync_all()?; // else the name could be on the disk before the bytes
     fs::rename(&next, book)?;

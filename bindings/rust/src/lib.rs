@@ -23,7 +23,7 @@
 //! it: the floating-point environment is as a process starts with it, rounding to nearest, nothing
 //! flushed to zero, no exception that traps. Rust itself assumes just that, but code of another
 //! language in the same process may have changed it. The same Poisson draw counted 1 to nearest and
-//! 2 rounding up, and what was booked so was redrawn as 17.
+//! 2 rounding up, and a redraw to nearest refused what was booked so, by 17.
 //!
 //! # The library
 //!
@@ -68,7 +68,9 @@ use std::fmt;
 pub const VERSION: u32 = 1;
 
 /// The version of the library that is linked. Where it isn't [`VERSION`], the two don't belong
-/// together: a host says so at its start, and ends.
+/// together, and nothing else may be called: what the library answers may have another size. A host
+/// says so at its start, and ends. (`rt staticlib` of the repository that this crate came with
+/// writes the right one.)
 ///
 /// ```
 /// assert_eq!(banlothek::version(), banlothek::VERSION);
@@ -226,9 +228,9 @@ pub enum Refusal {
         /// The lowest serial of such an entry.
         serial: u32,
     },
-    /// 100: the library does not know the request's kind: it is older than this wrapper.
+    /// 100: the number is no kind that the library knows ([`deliver_kind`]).
     NoSuchKind,
-    /// Any other number: the library is newer than this wrapper.
+    /// Any other number, which no library of this version gives.
     Unknown {
         /// The number that the library gave.
         number: u32,
@@ -382,8 +384,7 @@ pub fn draw(tape: &[u64], request: Request) -> Result<Drawn, Refusal> {
 /// changes nothing; it is answered in a full book and at the tape's end too.
 ///
 /// The order of refusals is 1, 11, 12, 13, then a copy is answered or refused by 14, then those of
-/// the request as for [`draw`], 15, 10. Before all of these a library that doesn't know the
-/// request's kind refuses it by 100.
+/// the request as for [`draw`], 15, 10.
 ///
 /// ```
 /// use banlothek::{deliver, Refusal, Request};
