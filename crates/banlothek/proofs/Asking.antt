@@ -1,18 +1,17 @@
 -- What a kind's number and three numbers ask for, and what a caller in C reads off a delivery's `refusal`: 100 exactly where the number is no
 -- kind's, 0 exactly where the delivery is accepted. Assumes nothing.
 use mathlib.Core.Path.{_≡_, refl, sym, ap, _∙_, subst}
-use mathlib.Core.Bool.{Bool, true, false, cond}
+use mathlib.Core.Bool.{Bool}
 use mathlib.Core.List.{List, [], _∷_, _++_}
 use mathlib.Core.Logic.{inl, inr, _↔_}
-use mathlib.Core.Option.{Option, none, some, Option·map}
+use mathlib.Core.Option.{Option, none, some}
 use Prim.Native.Nat.{ℕ, _<_}
 use native.Mathlib.Omega.{arith}
-use lib.ListN.{length, getD, drop}
+use lib.ListN.{length, drop}
 use borrow.Author.Needs.{needs}
 use Rattle.words.specs.Outcome.{Outcome, drawn, refused}
-use Rattle.words.specs.Refusals.{Condition, _on_, given, First}
+use Rattle.words.specs.Refusals.{Condition, _on_, First}
 use Rattle.words.specs.Draw.{shorts, endings}
-use Rattle.words.proofs.Short.{ended-first}
 use Rattle.poisson.specs.Poisson.{poisson}
 use Rattle.geometric.specs.Geometric.{geometric}
 use Rattle.standard_geometric.specs.Standard.{standardGeometric}
@@ -20,33 +19,19 @@ use Rattle.hypergeometric.specs.SetUp.{trayRefusals}
 use Rattle.hypergeometric.specs.Hypergeometric.{hypergeometric}
 use Rattle.kinds.specs.declared.Request.{Request}
 use Rattle.kinds.specs.declared.Request.the-variants.{Hypergeometric, Poisson, Geometric, StandardGeometric}
-use Rattle.kinds.specs.Kinds.{Kind, kindOf, requestOf}
-use Rattle.kinds.proofs.Table.{by-kind}
+use Rattle.kinds.specs.Kinds.{kindOf, requestOf}
+use Rattle.kinds.proofs.Requests.{asks-nothing}
 use Rattle.draws.specs.Request.{parameterRefusals, readingOf}
-use Rattle.draws.proofs.Laws.{request-ends}
 use Rattle.entry.specs.declared.Entry.{Entry}
 use Rattle.layout.specs.Standing.{standing}
-use Rattle.layout.proofs.Decoding.{by-test}
 use Rattle.opening.specs.Calls.{booked, limits}
-use Rattle.book.specs.Deliver.{Booking, fresh, copy, isNext, isAhead, isReused, isFull, whenNext, freshRefusals, deliverRefusals, freshly, delivery, deliverTo, deliver}
+use Rattle.book.specs.Deliver.{Booking, fresh, copy, isNext, isAhead, isReused, isFull, whenNext, freshRefusals, deliverRefusals, deliver}
+use Rattle.book.proofs.Refusals.{deliver-exactly}
 use Rattle.banlothek.specs.declared.BanlothekAnswer.{BanlothekAnswer}
 use Rattle.banlothek.specs.Face.{refusedBy, ofDelivery, noSuchKind, deliverAsked, Meets, DeliverTells}
 use Rattle.banlothek.proofs.Accepting.{Accepted}
 
 -- ---- what is asked for
-
--- no kind has a number past 16 bits
-pub past-kinds : (k : ℕ) (ps : List ℕ) → 65535 < k → requestOf k ps ≡ none
-unfolding requestOf
-past-kinds k ps h =
-    by-kind (λ o. Option·map (λ (x : Kind). x .makes (getD ps 0 0) (getD ps 1 0) (getD ps 2 0)) o ≡ none) k refl (λ x e l. absurd (omega (arith, l .small)))
-
--- nothing is asked for exactly where the number is no kind's
-asks-nothing : (k : ℕ) (ps : List ℕ) → (requestOf k ps ≡ none) ↔ (kindOf k ≡ none)
-unfolding requestOf
-asks-nothing k ps =
-    by-kind (λ o. (Option·map (λ (x : Kind). x .makes (getD ps 0 0) (getD ps 1 0) (getD ps 2 0)) o ≡ none) ↔ (o ≡ none)) k
-    ((λ e. refl), (λ e. refl)) (λ x e l. ((λ q. let z : _≡_ {A = ℕ} 0 1 = cc in absurd (omega arith)), (λ q. let z : _≡_ {A = ℕ} 0 1 = cc in absurd (omega arith))))
 
 module _ (ws b : List ℕ) (s : ℕ) (o : Option Request) (a : BanlothekAnswer) where
   -- nothing: refused, and the book as it was
@@ -75,14 +60,11 @@ ruled-next : (next : Bool) (cs : List Condition) → AllRuled cs → AllRuled (w
 ruled-next next [] h = tt
 ruled-next next (c ∷ cs) h = (h .0, ruled-next next cs (h .1))
 
--- what is given of a list of such refusals is one of them, if what the call comes to is
-ruled-given : {A : Type 0} (cs : List Condition) (o : Outcome A) → AllRuled cs → ((n : ℕ) → o ≡ refused n → Ruled n)
-    → (n : ℕ) → given cs o ≡ refused n → Ruled n
-ruled-given [] o h k n = k n
-ruled-given {A} (c ∷ cs) o h k n =
-    by-test (λ (x : Outcome A). x ≡ refused n → Ruled n) (c .holds)
-    (λ t e. let same : c .number ≡ n = cc in subst Ruled same (h .0))
-    (λ t e. ruled-given cs o (h .1) k n e)
+-- so is the one of a list of them that holds first
+first-ruled : (cs : List Condition) (n : ℕ) → AllRuled cs → First n cs → Ruled n
+first-ruled [] n h f = absurd f
+first-ruled (c ∷ cs) n h (inl f) = subst Ruled (f .1) (h .0)
+first-ruled (c ∷ cs) n h (inr f) = first-ruled cs n (h .1) (f .1)
 
 -- each kind's parameters: a line a kind
 parameters-ruled : (r : Request) → AllRuled (parameterRefusals r)
@@ -95,29 +77,6 @@ parameters-ruled StandardGeometric = search needs
 endings-ruled : {A : Type 0} (o : Outcome A) → AllRuled (endings shorts o)
 unfolding endings
 endings-ruled o = search needs
-
-first-ruled : (cs : List Condition) (n : ℕ) → AllRuled cs → First n cs → Ruled n
-first-ruled [] n h f = absurd f
-first-ruled (c ∷ cs) n h (inl f) = subst Ruled (f .1) (h .0)
-first-ruled (c ∷ cs) n h (inr f) = first-ruled cs n (h .1) (f .1)
-
--- a reading at the tape's end
-reading-ruled : (r : Request) (vs : List ℕ) (n : ℕ) → readingOf r vs ≡ refused n → Ruled n
-reading-ruled r vs n e =
-    let o : Outcome ℕ = readingOf r vs in
-    first-ruled (endings shorts o) n (endings-ruled o) (ended-first shorts o n e (request-ends r vs n e))
-
-freshly-ruled : (o : Outcome ℕ) → ((n : ℕ) → o ≡ refused n → Ruled n) → (n : ℕ) → freshly o ≡ refused n → Ruled n
-freshly-ruled (drawn c u) k n e = let z : _≡_ {A = ℕ} 0 1 = cc in absurd (omega arith)
-freshly-ruled (refused m) k n e = let same : m ≡ n = cc in subst Ruled same (k m refl)
-
-delivery-ruled : (ws : List ℕ) (es : List Entry) (s : ℕ) (r : Request) (n : ℕ) → delivery ws es s r ≡ refused n → Ruled n
-unfolding delivery
-delivery-ruled ws es s r n =
-    let vs : List ℕ = drop (standing es .place) ws in
-    by-test (λ (o : Outcome Booking). o ≡ refused n → Ruled n) (isNext (length es) s)
-    (λ t e. freshly-ruled (readingOf r vs) (reading-ruled r vs) n e)
-    (λ t e. let z : _≡_ {A = ℕ} 0 1 = cc in absurd (omega arith))
 
 fresh-ruled : (vs b : List ℕ) (end : ℕ) (r : Request) → AllRuled (freshRefusals vs b end r)
 unfolding freshRefusals
@@ -135,10 +94,7 @@ list-ruled ws b es s r =
 
 -- so no delivery of a request is refused by 0 or by 100
 deliver-ruled : (ws b : List ℕ) (s : ℕ) (r : Request) (n : ℕ) → deliver ws b s r .outcome ≡ refused n → Ruled n
-unfolding deliver deliverTo
-deliver-ruled ws b s r =
-    let es : List Entry = booked ws b in
-    ruled-given (deliverRefusals ws b es s r) (delivery ws es s r) (list-ruled ws b es s r) (delivery-ruled ws es s r)
+deliver-ruled ws b s r n e = first-ruled (deliverRefusals ws b (booked ws b) s r) n (list-ruled ws b (booked ws b) s r) (deliver-exactly ws b s r n .0 e)
 
 -- ---- what the struct says
 

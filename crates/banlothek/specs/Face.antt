@@ -13,6 +13,23 @@ use Rattle.book.specs.Strike.{strike}
 use Rattle.redraws.specs.Redraw.{Redrawing, redraw}
 use Rattle.banlothek.specs.declared.BanlothekAnswer.{BanlothekAnswer}
 
+-- ---- what is asked for
+
+-- what a number that is no kind's is refused with: of these functions alone, and no refusal of the rules
+abbrev pub noSuchKind : ℕ
+noSuchKind = 100
+
+-- a delivery of what is asked for; where that is nothing, it is refused before all else, and the book stays
+abbrev pub deliverAsked : List ℕ → List ℕ → ℕ → Option Request → Call Booking
+deliverAsked ws b s none = call (refused noSuchKind) b
+deliverAsked ws b s (some r) = deliver ws b s r
+
+-- which functions these are: a number that grows with them
+abbrev pub version : ℕ
+version = 1
+
+-- ---- the struct
+
 -- a call that is accepted: refusal 0, and no serial
 abbrev pub accepted : ℕ → ℕ → ℕ → BanlothekAnswer
 accepted copied used count = record { refusal = 0; copied = copied; serial = 0; used = used; count = count }
@@ -40,25 +57,14 @@ naming (refused n) s = refusedBy n s
 abbrev pub ofRedraw : Redrawing → BanlothekAnswer
 ofRedraw r = naming (r .outcome) (Option·getD (r .named) 0)
 
--- what a number that is no kind's is refused with: of these functions alone, and no refusal of the rules
-abbrev pub noSuchKind : ℕ
-noSuchKind = 100
-
--- a delivery of what is asked for; where that is nothing, it is refused before all else, and the book stays
-abbrev pub deliverAsked : List ℕ → List ℕ → ℕ → Option Request → Call Booking
-deliverAsked ws b s none = call (refused noSuchKind) b
-deliverAsked ws b s (some r) = deliver ws b s r
-
--- which functions these are: a number that grows with them
-abbrev pub version : ℕ
-version = 1
-
 -- a call that may write does what its rule says: the struct has what the call comes to, and the book is as the rule leaves it
 pub record Meets {A : Type 0} (fields : Outcome A → BanlothekAnswer) (c : Call A) (r : BanlothekAnswer) (book : List ℕ) : Type 0 where
   pub answers : r ≡ fields (c .outcome)
   pub leaves : book ≡ c .book
 
--- The contracts, over the words ws and the book b at entry: the answer a, and the book c at exit, of a draw of the request r, of a delivery
+-- ---- the contracts
+
+-- Over the words ws and the book b at entry: the answer a, and the book c at exit, of a draw of the request r, of a delivery
 -- of the kind k with the parameters ps, of a strike, of a redraw.
 abbrev pub DrawTells : Request → List ℕ → BanlothekAnswer → Type 0
 DrawTells r ws a = a ≡ plain (drawOf r ws)

@@ -1,7 +1,7 @@
 -- A fresh delivery by the draw that it makes: of a draw's answer and the room, what the list of conditions gives. Assumes nothing.
 use mathlib.Core.Path.{_≡_, refl, sym, ap, _∙_}
 use mathlib.Core.Bool.{Bool, true, false, cond, _&&_, true≢false}
-use mathlib.Core.List.{List, [], _∷_, _++_}
+use mathlib.Core.List.{List, _∷_, _++_}
 use mathlib.Core.Logic.{_⊎_, inl, inr}
 use Prim.Native.Nat.{ℕ, _+_, _≤_}
 use native.Mathlib.Omega.{arith}
@@ -15,7 +15,7 @@ use Rattle.words.specs.Refusals.{Condition, _on_, given, First, NoneHolds}
 use Rattle.words.specs.Draw.{shorts, endings}
 use Rattle.words.specs.Inner.{isShort}
 use Rattle.words.proofs.Tape.{limit-within}
-use Rattle.words.proofs.Exactly.{first-given, first-before, given-append, none-given}
+use Rattle.words.proofs.Exactly.{first-given, first-before, first-split, given-append, none-given}
 use Rattle.words.proofs.Short.{none-ended, first-ended}
 use Rattle.words.proofs.Drawing.{accepted-passed, accepted-reading}
 use Rattle.kinds.specs.declared.Request.{Request}
@@ -28,16 +28,6 @@ use Rattle.entry.specs.Entry.{booking, entryBytes}
 use Rattle.opening.specs.Calls.{call}
 use Rattle.book.specs.Deliver.{Booking, fresh, isFull, freshRefusals, freshly, delivering}
 use Rattle.book.specs.Inner.{freshDelivery}
-
--- what holds first in two lists joined holds first in one of them
-first-split : (cs ds : List Condition) (n : ℕ) → First n (cs ++ ds) → First n cs ⊎ (NoneHolds cs × First n ds)
-first-split [] ds n f = inr (tt, f)
-first-split (c ∷ cs) ds n (inl h) = inl (inl h)
-first-split (c ∷ cs) ds n (inr h) = go (first-split cs ds n (h .1))
-  where
-    go : First n cs ⊎ (NoneHolds cs × First n ds) → First n (c ∷ cs) ⊎ (NoneHolds (c ∷ cs) × First n ds)
-    go (inl f) = inl (inr (h .0, f))
-    go (inr x) = inr ((h .0, x .0), x .1)
 
 -- the words vs from the book's place on, and a book that ends at `end`
 module _ (vs b : List ℕ) (end : ℕ) (r : Request) (short : length vs ≤ mostWords) where

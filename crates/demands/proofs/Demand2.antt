@@ -5,19 +5,15 @@ use mathlib.Core.List.{List, [], _∷_, _++_}
 use mathlib.Core.Logic.{_↔_}
 use mathlib.Core.Option.{Option, none, some}
 use Prim.Native.Nat.{ℕ, _-_}
-use native.Mathlib.Omega.{arith}
 use lib.Dec.{eqb}
 use lib.ListN.{length, drop}
 use borrow.Author.Tests.{eq-eqb, eqb-true}
 use Rattle.words.specs.Outcome.{Outcome, drawn, refused}
 use Rattle.words.specs.Refusals.{Condition, _on_, given, First, NoneHolds}
-use Rattle.words.specs.Draw.{shorts, endsBy, endings}
-use Rattle.words.proofs.Exactly.{SomeFirst, exactly, along, drawn-exactly, some-after, none-given}
+use Rattle.words.specs.Draw.{endsBy}
+use Rattle.words.proofs.Exactly.{exactly, along, drawn-exactly, none-given}
 use Rattle.words.proofs.Reading.{refused-not-drawn}
-use Rattle.words.proofs.Short.{ended-first}
 use Rattle.kinds.specs.declared.Request.{Request}
-use Rattle.draws.specs.Request.{parameterRefusals, readingOf}
-use Rattle.draws.proofs.Laws.{request-ends}
 use Rattle.draws.proofs.Demand2 as draws
 use Rattle.hypergeometric.specs.declared.SetUp.{SetUp}
 use Rattle.hypergeometric.specs.SetUp.{setUp, trayRefusals, settled, SetUpAllows}
@@ -29,10 +25,11 @@ use Rattle.book.specs.declared.Struck.{Struck}
 use Rattle.redraws.specs.declared.Redrawn.{Redrawn}
 use Rattle.opening.specs.Calls.{Call, booked, limits}
 use Rattle.layout.specs.Standing.{standing}
-use Rattle.book.specs.Deliver.{Booking, isNext, isAhead, isReused, isFull, whenNext, freshRefusals, deliverRefusals, freshly, delivery, deliverTo, deliver, delivered, DeliverAllows}
+use Rattle.book.specs.Deliver.{Booking, isNext, isAhead, isReused, whenNext, freshRefusals, deliverRefusals, delivery, deliverTo, deliver, delivered, DeliverAllows}
 use Rattle.book.specs.Strike.{strikeIn, strike, struck, StrikeAllows}
 use Rattle.redraws.specs.Redraw.{lowest, Redrawing, redrawOf, redraw, redrawn, RedrawAllows}
-use Rattle.book.proofs.Delivering.{copy-unrefused, next-asked}
+use Rattle.book.proofs.Delivering.{copy-unrefused}
+use Rattle.book.proofs.Refusals.{deliver-exactly}
 use Rattle.demands.specs.Demand2.{deliverConditions, strikeConditions, redrawConditions, SetUpDemanded, DeliverDemanded, StrikeDemanded, RedrawDemanded, Demand2}
 use Rattle.demands.proofs.OneCall.{one-delivered, one-struck, one-redrawn}
 use Rattle.demands.proofs.Demand1.{delivery-writes, strike-writes}
@@ -47,37 +44,13 @@ copy-refusals ws b es s r o e =
     let fs : List Condition = freshRefusals (drop (standing es .place) ws) b (standing es .end) r in
     rw (e, none-given (whenNext false fs) o (copy-unrefused fs))
 
-freshly-refused : (o : Outcome ℕ) (n : ℕ) → freshly o ≡ refused n → o ≡ refused n
-freshly-refused (drawn c u) n e = cc
-freshly-refused (refused m) n e = cc
-
--- a delivery that comes to a refusal by itself has called for a word past the tape's end, and that refusal is on its list
-pub fresh-covered : (vs b : List ℕ) (end : ℕ) (r : Request) (n : ℕ) → readingOf r vs ≡ refused n → SomeFirst (freshRefusals vs b end r)
-unfolding freshRefusals
-fresh-covered vs b end r n e =
-    let full : Condition = 15 on isFull b end r in
-    let short : List Condition = endings shorts (readingOf r vs) in
-    some-after (parameterRefusals r) (full ∷ short)
-    (some-after (full ∷ []) short (n, ended-first shorts (readingOf r vs) n e (request-ends r vs n e)))
-
-delivery-covered : (ws b : List ℕ) (es : List Entry) (s : ℕ) (r : Request) (n : ℕ) → delivery ws es s r ≡ refused n
-    → SomeFirst (deliverRefusals ws b es s r)
-unfolding deliverRefusals delivery
-delivery-covered ws b es s r n =
-    let vs : List ℕ = drop (standing es .place) ws in
-    let fs : List Condition = freshRefusals vs b (standing es .end) r in
-    let firsts : List Condition = limits ws b ++ (13 on isAhead (length es) s ∷ 14 on isReused es s r ∷ []) in
-    by-test (λ (o : Outcome Booking). o ≡ refused n → SomeFirst (firsts ++ whenNext (isNext (length es) s) fs)) (isNext (length es) s)
-    (λ t e. rw (t, next-asked fs) (some-after firsts fs (fresh-covered vs b (standing es .end) r n (freshly-refused (readingOf r vs) n e))))
-    (λ t e. let z : _≡_ {A = ℕ} 0 1 = cc in absurd (omega arith))
-
 delivery-demanded : (ws b : List ℕ) (s : ℕ) (r : Request) (a : Delivered) (c : List ℕ) → DeliverAllows ws b s r a c → DeliverDemanded ws b s r a c
 unfolding deliver deliverTo
 delivery-demanded ws b s r a c e =
     let o : delivered a ≡ given (deliverConditions ws b s r) (delivery ws (booked ws b) s r) = ap (λ (x : Call Booking). x .outcome) e in
     record {
       tells = λ x u. along o (drawn-exactly (deliverConditions ws b s r) (delivery ws (booked ws b) s r) x u);
-      refuses = λ n. along o (exactly (deliverConditions ws b s r) (delivery ws (booked ws b) s r) (delivery-covered ws b (booked ws b) s r) n);
+      refuses = λ n. along (ap (λ (x : Call Booking). x .outcome) e) (deliver-exactly ws b s r n);
       writes = delivery-writes ws b s r a c e;
       one = λ a' c' e'.
           let same = e' ∙ sym e in

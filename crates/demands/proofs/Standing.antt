@@ -38,7 +38,7 @@ use Rattle.book.specs.Strike.{strikeRefusals, leftBy, striking, strikeIn, strik
 use Rattle.opening.proofs.Opening.{opens}
 use Rattle.book.proofs.Fresh.{fresh-booked}
 use Rattle.book.proofs.Delivering as book
-use Rattle.demands.proofs.Demand2.{fresh-covered}
+use Rattle.book.proofs.Refusals.{fresh-covered}
 use Rattle.demands.proofs.Laws.{by-given, not-both, by-outcome, none-append, none-after}
 
 -- ---- what stands

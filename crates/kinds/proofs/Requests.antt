@@ -148,9 +148,17 @@ row-asks k ps l n q =
     by-kind (λ o. Of l n q ≡ row o (getD ps 0 0) (getD ps 1 0) (getD ps 2 0) → Option·map (λ (x : Kind). x .makes (getD ps 0 0) (getD ps 1 0) (getD ps 2 0)) o ≡ some q)
     k (λ e. let z : _≡_ {A = ℕ} 0 1 = cc in absurd (omega arith)) (λ x _ _ e. cc)
 
-pub row-asks-none : (k : ℕ) (ps : List ℕ) → Unknown ≡ rowOf k (getD ps 0 0) (getD ps 1 0) (getD ps 2 0) → requestOf k ps ≡ none
+-- nothing is asked for exactly where the number is no kind's
+pub asks-nothing : (k : ℕ) (ps : List ℕ) → (requestOf k ps ≡ none) ↔ (kindOf k ≡ none)
 unfolding requestOf
-row-asks-none k ps e = rw (row-none (kindOf k) (getD ps 0 0) (getD ps 1 0) (getD ps 2 0) e)
+asks-nothing k ps = (go (kindOf k), λ e. rw e)
+  where
+    go : (o : Option Kind) → Option·map (λ (x : Kind). x .makes (getD ps 0 0) (getD ps 1 0) (getD ps 2 0)) o ≡ none → o ≡ none
+    go none e = refl
+    go (some x) e = let z : _≡_ {A = ℕ} 0 1 = cc in absurd (omega arith)
+
+pub row-asks-none : (k : ℕ) (ps : List ℕ) → Unknown ≡ rowOf k (getD ps 0 0) (getD ps 1 0) (getD ps 2 0) → requestOf k ps ≡ none
+row-asks-none k ps e = asks-nothing k ps .1 (row-none (kindOf k) (getD ps 0 0) (getD ps 1 0) (getD ps 2 0) e)
 
 -- ---- the same request
 

@@ -110,6 +110,10 @@ length-small k = by-kind (λ o. lengthIn o < 65536) k (omega arith) (λ x e l. o
 pub parameters-few : (k : ℕ) → parametersIn (kindOf k) ≤ 3
 parameters-few k = by-kind (λ o. parametersIn o ≤ 3) k (omega arith) (λ x e l. l .few)
 
+-- no kind has a number past the two bytes that hold it
+pub past-kinds : (k : ℕ) → 65535 < k → kindOf k ≡ none
+past-kinds k h = by-kind (λ o. o ≡ none) k refl (λ x e l. absurd (omega (arith, l .small)))
+
 -- a number with a length is a kind's
 pub known : (k : ℕ) → 0 < lengthIn (kindOf k) → (x : Kind) × (kindOf k ≡ some x)
 known k h = by-kind (λ o. 0 < lengthIn o → (x : Kind) × (o ≡ some x)) k (λ n. absurd (omega arith)) (λ x e l n. (x, refl)) h

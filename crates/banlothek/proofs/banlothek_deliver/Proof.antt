@@ -4,8 +4,9 @@ use mathlib.Core.Path.{sym, _∙_}
 use mathlib.Core.List.{List, [], _∷_}
 use Prim.Native.Nat.{ℕ}
 use native.Mathlib.Omega.{arith}
-use Rattle.kinds.proofs.Requests.{row-asks, row-asks-none}
-use Rattle.banlothek.proofs.Asking.{past-kinds, nothing-asked, request-asked}
+use Rattle.kinds.proofs.Table.{past-kinds}
+use Rattle.kinds.proofs.Requests.{asks-nothing, row-asks, row-asks-none}
+use Rattle.banlothek.proofs.Asking.{nothing-asked, request-asked}
 use Rattle.banlothek.proofs.banlothek_deliver.Statement.{statement}
 use Rattle.banlothek.proofs.banlothek_deliver.Tie as tie
 
@@ -18,7 +19,7 @@ no-such-kind-requires c κs = search needs
 returns : tie.Need-returns
 returns c =
     let z = c .before .before .before .before in
-    nothing-asked _ _ (z .args .serial) _ _ (past-kinds (z .args .kind) (parameters z) (omega arith)) (c .no-such-kind .ensures)
+    nothing-asked _ _ (z .args .serial) _ _ (asks-nothing (z .args .kind) (parameters z) .1 (past-kinds (z .args .kind) (omega arith))) (c .no-such-kind .ensures)
 
 cast-row-of : tie.Need-cast-row-of
 cast-row-of c = search needs
