@@ -6,7 +6,8 @@ use Rattle.words.specs.Outcome.{Outcome, drawn, refused}
 use Rattle.book.specs.Deliver.{Booking, fresh, copy}
 use Rattle.redraws.specs.Redraw.{Redrawing}
 use Rattle.writing.specs.Digits.{decimal}
-use Rattle.lines.specs.Lines.{line, refusedText, refusedLine, serialText, usedText, countText}
+use Rattle.names.specs.Names.{nameOf}
+use Rattle.lines.specs.Lines.{line, refusedText, serialText, usedText, countText}
 
 -- the words that begin an answer
 abbrev pub bookedText : List ℕ
@@ -18,8 +19,15 @@ copyText = 99 ∷ 111 ∷ 112 ∷ 121 ∷ []  -- "copy"
 abbrev pub leftText : List ℕ
 leftText = 108 ∷ 101 ∷ 102 ∷ 116 ∷ []  -- "left"
 
+abbrev pub keptText : List ℕ
+keptText = 107 ∷ 101 ∷ 112 ∷ 116 ∷ []  -- "kept"
+
 abbrev pub agreesText : List ℕ
 agreesText = 97 ∷ 103 ∷ 114 ∷ 101 ∷ 101 ∷ 115 ∷ []  -- "agrees"
+
+-- a refusal, by its number and its name: `refused 13 SerialAhead`
+unfoldable pub refusalLine : ℕ → List ℕ
+refusalLine n = line (refusedText ∷ decimal n ∷ nameOf n ∷ [])
 
 -- a booking or a copy of it: `booked serial 7 count 2 used 1`
 unfoldable pub countLine : List ℕ → ℕ → ℕ → ℕ → List ℕ
@@ -29,17 +37,21 @@ countLine t s c u = line (t ∷ serialText ∷ decimal s ∷ countText ∷ decim
 abbrev pub deliveryLine : ℕ → Outcome Booking → List ℕ
 deliveryLine s (drawn (fresh c) u) = countLine bookedText s c u
 deliveryLine s (drawn (copy c) u) = countLine copyText s c u
-deliveryLine s (refused n) = refusedLine n
+deliveryLine s (refused n) = refusalLine n
 
 -- a strike: the number of entries left, `left 8`
 abbrev pub strikeLine : Outcome ℕ → List ℕ
 strikeLine (drawn n u) = line (leftText ∷ decimal n ∷ [])
-strikeLine (refused n) = refusedLine n
+strikeLine (refused n) = refusalLine n
 
--- a redraw: the number of entries that agree, `agrees 10`, or the serial that a 17 names, `refused 17 serial 4`
+-- a strike from another number of entries than stand: these, `kept 9`
+unfoldable pub keptLine : ℕ → List ℕ
+keptLine n = line (keptText ∷ decimal n ∷ [])
+
+-- a redraw: the number of entries that agree, `agrees 10`, or the serial that a 17 names, `refused 17 RedrawDiffers serial 4`
 abbrev pub namedLine : ℕ → Option ℕ → List ℕ
-namedLine n none = refusedLine n
-namedLine n (some s) = line (refusedText ∷ decimal n ∷ serialText ∷ decimal s ∷ [])
+namedLine n none = refusalLine n
+namedLine n (some s) = line (refusedText ∷ decimal n ∷ nameOf n ∷ serialText ∷ decimal s ∷ [])
 
 abbrev pub outcomeLine : Outcome ℕ → Option ℕ → List ℕ
 outcomeLine (drawn n u) s = line (agreesText ∷ decimal n ∷ [])

@@ -15,6 +15,7 @@ use Rattle.request_line.specs.declared.Asked.the-variants as asked
 use Rattle.request_line.specs.declared.Line.{Line}
 use Rattle.request_line.specs.declared.Line.the-variants as line
 use Rattle.request_line.specs.Words.{word, words, sameText}
+use Rattle.request_line.specs.Ends.{textOf, isLine}
 
 -- the calls' names
 abbrev pub deliverText : List ℕ
@@ -25,6 +26,10 @@ strikeText = 115 ∷ 116 ∷ 114 ∷ 105 ∷ 107 ∷ 101 ∷ []  -- "strike"
 
 abbrev pub redrawText : List ℕ
 redrawText = 114 ∷ 101 ∷ 100 ∷ 114 ∷ 97 ∷ 119 ∷ []  -- "redraw"
+
+-- the word before the number of entries that a strike is from
+abbrev pub fromText : List ℕ
+fromText = 102 ∷ 114 ∷ 111 ∷ 109 ∷ []  -- "from"
 
 -- the kinds' names
 abbrev pub hypergeometricText : List ℕ
@@ -87,6 +92,14 @@ deliverLine l =
 unfoldable pub strikeLine : List ℕ → Line
 strikeLine l = cond (eqb (words l) 2) (onNumber (numberAt 1 l) line.Strike line.Unread) line.Unread
 
+-- `strike`, j, `from` and the number of entries
+unfoldable pub strikeFromLine : List ℕ → Line
+strikeFromLine l = onNumber (numberAt 1 l) (λ (j : ℕ). onNumber (numberAt 3 l) (λ (m : ℕ). line.StrikeFrom j m) line.Unread) line.Unread
+
+-- either strike
+unfoldable pub anyStrikeLine : List ℕ → Line
+anyStrikeLine l = cond (isForm 4 2 fromText l) (strikeFromLine l) (strikeLine l)
+
 -- `redraw`
 unfoldable pub redrawLine : List ℕ → Line
 redrawLine l = cond (eqb (words l) 1) line.Redraw line.Unread
@@ -95,13 +108,17 @@ redrawLine l = cond (eqb (words l) 1) line.Redraw line.Unread
 unfoldable pub callLine : List ℕ → Line
 callLine l =
     cond (sameText (word 0 l) deliverText) (deliverLine l)
-    (cond (sameText (word 0 l) strikeText) (strikeLine l)
+    (cond (sameText (word 0 l) strikeText) (anyStrikeLine l)
     (cond (sameText (word 0 l) redrawText) (redrawLine l) line.Unread))
 
 -- empty lines and lines that begin with `#`
 unfoldable pub isPassed : List ℕ → Bool
 isPassed l = eqb (length l) 0 || eqb (getD l 0 0) 35  -- "#"
 
--- a line, without its newline, is at most 255 bytes
+-- a line's text is at most 255 bytes
+unfoldable pub readText : List ℕ → Line
+readText l = cond (ltb 255 (length l)) line.Unread (cond (isPassed l) line.Passed (callLine l))
+
+-- what is not a whole line can't be read
 unfoldable pub readLine : List ℕ → Line
-readLine l = cond (ltb 255 (length l)) line.Unread (cond (isPassed l) line.Passed (callLine l))
+readLine l = cond (isLine l) (readText (textOf l)) line.Unread

@@ -12,12 +12,13 @@ ghost use Rattle.numerals.specs.Digits.{number};
 ghost use Rattle.numerals.specs.Decimal.{floatBits};
 ghost use Rattle.request_line.specs.Words.{pastWords, sameText, word};
 ghost use Rattle.request_line.specs.Words as text;
-ghost use Rattle.request_line.specs.Forms.{callLine, deliverLine, geometricAsked, isForm, poissonAsked, readLine, redrawLine, requestAsked, strikeLine, trayAsked};
+ghost use Rattle.request_line.specs.Forms.{anyStrikeLine, callLine, deliverLine, geometricAsked, isForm, poissonAsked, readLine, readText, redrawLine, requestAsked, strikeFromLine, strikeLine, trayAsked};
 
 // What a line asks for: a call; nothing, where it is passed over; or that it can't be read.
 pub enum Line {
     Deliver { serial: u32, request: Request },
     Strike { j: u64 },
+    StrikeFrom { j: u64, entries: u64 },
     Redraw,
     Passed,
     Unread,
@@ -29,10 +30,14 @@ enum Asked {
     Unread,
 }
 
-// The most bytes that a line may have, without its newline.
+// The most bytes that a line's text may have.
 const MOST_BYTES: usize = 255;
 
 const SPACE: u8 = b' ';
+
+const NEWLINE: u8 = b'\n';
+
+const CARRIAGE_RETURN: u8 = b'\r';
 
 // ---- words
 
@@ -158,15 +163,15 @@ fn geometric(line: &[u8]) -> Asked
     }
 }
 
-// Whether the line has so many words, the third of them this kind's name.
-fn is_form(line: &[u8], k: u64, kind: &[u8]) -> bool
+// Whether the line has so many words, the third of them this text.
+fn is_form(line: &[u8], k: u64, text: &[u8]) -> bool
     requires { ⌜ 0 < k ⌝ }
-    ensures { λ r. ⌜ r ≡ isForm k 2 (now (kind .entry)) (now (line .entry)) ⌝ }
+    ensures { λ r. ⌜ r ≡ isForm k 2 (now (text .entry)) (now (line .entry)) ⌝ }
 {
     if !has_words(line, k) {
         return false;
     }
-    is_word(line, 2, kind)
+    is_word(line, 2, text)
 }
 
 // The request of a delivery, by the number of words and the name of its kind.
@@ -217,6 +222,28 @@ fn strike(line: &[u8]) -> Line
     }
 }
 
+// A strike that names how many entries are to stand.
+fn strike_from(line: &[u8]) -> Line
+    ensures { λ r. ⌜ r ≡ strikeFromLine (now (line .entry)) ⌝ }
+{
+    let Number::Is(j) = number_at(line, 1, u64::MAX) else {
+        return Line::Unread;
+    };
+    let Number::Is(entries) = number_at(line, 3, u64::MAX) else {
+        return Line::Unread;
+    };
+    Line::StrikeFrom { j, entries }
+}
+
+fn any_strike(line: &[u8]) -> Line
+    ensures { λ r. ⌜ r ≡ anyStrikeLine (now (line .entry)) ⌝ }
+{
+    if is_form(line, 4, b"from") {
+        return strike_from(line);
+    }
+    strike(line)
+}
+
 fn redraw(line: &[u8]) -> Line
     ensures { λ r. ⌜ r ≡ redrawLine (now (line .entry)) ⌝ }
 {
@@ -234,7 +261,7 @@ fn call(line: &[u8]) -> Line
         return delivery(line);
     }
     if is_word(line, 0, b"strike") {
-        return strike(line);
+        return any_strike(line);
     }
     if is_word(line, 0, b"redraw") {
         return redraw(line);
@@ -242,9 +269,9 @@ fn call(line: &[u8]) -> Line
     Line::Unread
 }
 
-// Reads a line, without its newline.
-pub fn read(line: &[u8]) -> Line
-    ensures { λ r. ⌜ r ≡ readLine (now (line .entry)) ⌝ }
+// Reads the text of a line, what stands before its end.
+fn text(line: &[u8]) -> Line
+    ensures { λ r. ⌜ r ≡ readText (now (line .entry)) ⌝ }
 {
     if MOST_BYTES < line.len() {
         return Line::Unread;
@@ -256,4 +283,19 @@ pub fn read(line: &[u8]) -> Line
         return Line::Passed;
     }
     call(line)
+}
+
+// Reads a line as it came, its newline with it. What was cut off before the newline is no line.
+pub fn read(line: &[u8]) -> Line
+    ensures { λ r. ⌜ r ≡ readLine (now (line .entry)) ⌝ }
+{
+    let end = find(line, 0, line.len(), NEWLINE);
+    if line.len() - end != 1 {
+        return Line::Unread;
+    }
+    let stop = find(line, 0, end, CARRIAGE_RETURN);
+    if 1 < end - stop {
+        return Line::Unread;
+    }
+    text(&line[0..stop])
 }

@@ -27,8 +27,8 @@ put-draw-requires-2 c κs = search needs
 enum-known-answer-3 : tie.Need-enum-known-answer-3
 enum-known-answer-3 c = search needs
 
-put-refused-requires : tie.Need-put-refused-requires
-put-refused-requires c κs = search needs
+put-refusal-requires : tie.Need-put-refusal-requires
+put-refusal-requires c κs = search needs
 
 returns : tie.Need-returns
 unfolding countLine countsAfter line
@@ -39,7 +39,7 @@ unfolding countLine countsAfter line
 returns-2 c = rw (c .before .before .before .before .answer2 .given .1) (c .put-draw2 .ensures)
 
 returns-3 : tie.Need-returns-3
-returns-3 c = rw (c .before .before .before .answer3 .given .1) (c .put-refused .ensures)
+returns-3 c = rw (c .before .before .before .answer3 .given .1) (c .put-refusal .ensures)
 
 pub delivered-line-spec : {M : Type 1} → statement M
 delivered-line-spec =
@@ -52,7 +52,7 @@ delivered-line-spec =
     slice-aggregate-put-draw-2
     put-draw-requires-2
     enum-known-answer-3
-    put-refused-requires
+    put-refusal-requires
     returns
     returns-2
     returns-3)

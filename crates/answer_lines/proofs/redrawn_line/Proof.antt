@@ -22,8 +22,8 @@ put-differs-requires c κs = search needs
 enum-known-answer-3 : tie.Need-enum-known-answer-3
 enum-known-answer-3 c = search needs
 
-put-refused-requires : tie.Need-put-refused-requires
-put-refused-requires c κs = search needs
+put-refusal-requires : tie.Need-put-refusal-requires
+put-refusal-requires c κs = search needs
 
 returns : tie.Need-returns
 unfolding line
@@ -33,7 +33,7 @@ returns-2 : tie.Need-returns-2
 returns-2 c = rw (c .before .before .before .answer2 .given .1) (c .put-differs .ensures)
 
 returns-3 : tie.Need-returns-3
-returns-3 c = rw (c .before .before .before .answer3 .given .1) (c .put-refused .ensures)
+returns-3 c = rw (c .before .before .before .answer3 .given .1) (c .put-refusal .ensures)
 
 pub redrawn-line-spec : {M : Type 1} → statement M
 redrawn-line-spec =
@@ -45,7 +45,7 @@ redrawn-line-spec =
     enum-known-answer-2
     put-differs-requires
     enum-known-answer-3
-    put-refused-requires
+    put-refusal-requires
     returns
     returns-2
     returns-3)

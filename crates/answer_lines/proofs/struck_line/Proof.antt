@@ -16,15 +16,15 @@ put-numbered-requires c κs = search needs
 enum-known-answer-2 : tie.Need-enum-known-answer-2
 enum-known-answer-2 c = search needs
 
-put-refused-requires : tie.Need-put-refused-requires
-put-refused-requires c κs = search needs
+put-refusal-requires : tie.Need-put-refusal-requires
+put-refusal-requires c κs = search needs
 
 returns : tie.Need-returns
 unfolding line
 returns c = rw (c .before .before .before .before .answer .given .1) (c .put-numbered .ensures)
 
 returns-2 : tie.Need-returns-2
-returns-2 c = rw (c .before .before .before .answer2 .given .1) (c .put-refused .ensures)
+returns-2 c = rw (c .before .before .before .answer2 .given .1) (c .put-refusal .ensures)
 
 pub struck-line-spec : {M : Type 1} → statement M
 struck-line-spec =
@@ -34,6 +34,6 @@ struck-line-spec =
     slice-aggregate-put-numbered
     put-numbered-requires
     enum-known-answer-2
-    put-refused-requires
+    put-refusal-requires
     returns
     returns-2)

@@ -41,14 +41,14 @@ slice-aggregate-is-word-2 c = search needs
 is-word-requires-2 : tie.Need-is-word-requires-2
 is-word-requires-2 c κs = search needs
 
-strike-requires : tie.Need-strike-requires
-strike-requires c κs = search needs
+any-strike-requires : tie.Need-any-strike-requires
+any-strike-requires c κs = search needs
 
 returns-2 : tie.Need-returns-2
 unfolding callLine
 returns-2 c =
     let i = c .before .before in
-    rw (not-delivery (i .before .before), sym (i .is-word2 .ensures) ∙ c .before .if2 .taken) (c .strike .ensures)
+    rw (not-delivery (i .before .before), sym (i .is-word2 .ensures) ∙ c .before .if2 .taken) (c .any-strike .ensures)
 
 slice-aggregate-is-word-3 : tie.Need-slice-aggregate-is-word-3
 slice-aggregate-is-word-3 c = search needs
@@ -83,7 +83,7 @@ call-spec =
     returns
     slice-aggregate-is-word-2
     is-word-requires-2
-    strike-requires
+    any-strike-requires
     returns-2
     slice-aggregate-is-word-3
     is-word-requires-3

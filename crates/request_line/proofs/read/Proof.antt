@@ -1,35 +1,66 @@
--- `request_line::read` meets its contract, test by test. Assumes nothing.
+-- `request_line::read` meets its contract: the line's end, and then its text. Assumes nothing.
 use borrow.Author.Needs.{needs}
-use borrow.Author.Tests.{lt-ltb, le-ltb, eq-eqb, ne-eqb}
-use mathlib.Core.Bool.{or-true}
-use Rattle.request_line.specs.Forms.{isPassed, readLine}
+use mathlib.Core.Path.{sym, _∙_}
+use Rattle.request_line.proofs.Ending.{not-ended, not-bare, read-text}
 use Rattle.request_line.proofs.read.Statement.{statement}
 use Rattle.request_line.proofs.read.Tie as tie
 
+find-requires : tie.Need-find-requires
+find-requires c κs = search needs
+
+sub-if1 : tie.Need-sub-if1
+sub-if1 c = search needs
+
 returns : tie.Need-returns
-unfolding readLine
-returns c = rw (lt-ltb 255 _ (c .if1 .taken))
+returns c =
+    let f = c .before .find in
+    sym (not-ended _ (f .result) (f .ensures .0) (f .ensures .1) (c .if1 .taken))
+
+find-requires-2 : tie.Need-find-requires-2
+find-requires-2 c κs = search needs
+
+sub-if2 : tie.Need-sub-if2
+sub-if2 c = search needs
 
 returns-2 : tie.Need-returns-2
-unfolding readLine isPassed
-returns-2 c = rw (le-ltb 255 _ (c .before .if1 .left), eq-eqb _ 0 (c .if2 .taken))
+returns-2 c =
+    let g = c .before in
+    let f = g .before .before .find in
+    sym (not-bare _ (f .result) (f .ensures .0) (f .ensures .1) (g .find2 .result) (g .find2 .ensures .0) (g .find2 .ensures .1) (c .if2 .taken))
 
-shared-slice-read-if3 : tie.Need-shared-slice-read-if3
-shared-slice-read-if3 c = search needs
+sub-text : tie.Need-sub-text
+sub-text c = search needs
+
+part-text-start : tie.Need-part-text-start
+part-text-start c = search needs
+
+part-text-end : tie.Need-part-text-end
+part-text-end c = search needs
+
+text-requires : tie.Need-text-requires
+text-requires c κs = search needs
 
 returns-3 : tie.Need-returns-3
-unfolding readLine isPassed
-returns-3 c = let e = c .before .before in rw (le-ltb 255 _ (e .before .if1 .left), eq-eqb _ 35 (c .if3 .taken), or-true)
-
-call-requires : tie.Need-call-requires
-call-requires c κs = search needs
-
-returns-4 : tie.Need-returns-4
-unfolding readLine isPassed
-returns-4 c =
-    let e = c .before .before .before in
-    rw (le-ltb 255 _ (e .before .if1 .left), ne-eqb _ 0 (e .if2 .left), ne-eqb _ 35 (c .before .if3 .left)) (c .call .ensures)
+returns-3 c =
+    let g = c .before .before .before in
+    let f = g .before .before .find in
+    c .text .ensures
+    ∙ sym
+    (read-text _ (f .result) (f .ensures .0) (f .ensures .1) (g .find2 .result) (g .find2 .ensures .0) (g .find2 .ensures .1) (g .before .if1 .left)
+    (c .before .before .if2 .left))
 
 pub read-spec : {M : Type 1} → statement M
 read-spec =
-    tie.close (tie.spec returns returns-2 shared-slice-read-if3 returns-3 call-requires returns-4)
+    tie.close
+    (tie.spec
+    find-requires
+    sub-if1
+    returns
+    find-requires-2
+    sub-if2
+    returns-2
+    sub-text
+    part-text-start
+    part-text-end
+    text-requires
+    returns-3)
