@@ -4,3 +4,4 @@ pub mod Refusals
 pub mod Striking
 pub mod Worked
 pub mod Elsewhere
+pub mod LeftOver

@@ -1,1 +1,3 @@
+pub mod StrikingFrom
 pub mod Serving
+pub mod SentAgain

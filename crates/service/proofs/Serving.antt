@@ -1,31 +1,29 @@
 -- Laws of the service: a line's call by what the line is read as, and a call's answer with its book. Assumes nothing.
-use mathlib.Core.Path.{_≡_, refl, ap, sym, subst}
+use mathlib.Core.Path.{_≡_, refl, ap, sym, subst, _∙_}
 use mathlib.Core.Bool.{Bool, false}
 use mathlib.Core.List.{List, []}
 use Prim.Native.Nat.{ℕ, _-_}
 use native.Mathlib.Omega.{arith}
 use lib.Dec.{eqb}
 use lib.ListN.{length}
-use lib.Seq.{take-all}
-use borrow.Author.Tests.{eqb-true, not-false}
+use borrow.Author.Tests.{eqb-true}
 use Rattle.words.specs.Outcome.{Outcome, drawn, refused}
-use Rattle.bytes_le.specs.Zeros.{wiped}
-use Rattle.bytes_le.proofs.Zeros.{wipe-done}
 use Rattle.kinds.specs.declared.Request.{Request}
-use Rattle.entry.specs.declared.Entry.{Entry}
-use Rattle.layout.specs.Book.{lengthAll}
+use Rattle.layout.proofs.Decoding.{by-test}
 use Rattle.opening.specs.Calls.{Call, call, booked}
 use Rattle.layout.specs.Standing.{standing}
 use Rattle.layout.specs.declared.Standing.{Standing}
 use Rattle.book.specs.Deliver.{Booking, fresh, copy, afterDelivery, deliverTo, deliver}
-use Rattle.book.specs.Strike.{leftBy, afterStrike, strikeIn, strike}
+use Rattle.book.specs.Strike.{strikeIn, strike}
 use Rattle.redraws.specs.Redraw.{Redrawing}
 use Rattle.writing.specs.Writing.{Writes}
 use Rattle.request_line.specs.declared.Line.{Line}
-use Rattle.request_line.specs.declared.Line.the-variants.{Deliver, Strike, Redraw, Passed, Unread}
+use Rattle.request_line.specs.declared.Line.the-variants.{Deliver, Strike, StrikeFrom, Redraw, Passed, Unread}
 use Rattle.request_line.specs.Forms.{readLine}
 use Rattle.answer_lines.specs.Answers.{deliveryLine, strikeLine, redrawLine}
-use Rattle.service.specs.Service.{serving, isFresh, isStruck, delivering, striking, answered, serve, Meets}
+use Rattle.service.specs.StrikeFrom.{strikeFrom}
+use Rattle.service.specs.Service.{Service, serving, isFresh, isStruck, delivering, striking, struckFrom, answered, serve, Meets}
+use Rattle.service.proofs.StrikingFrom.{strike-unchanged, from-standing}
 
 -- nothing said is written by itself
 pub silent : (l : List ℕ) → Writes l 0 [] l 0
@@ -63,18 +61,20 @@ module _ (b : List ℕ) where
   delivery-unchanged (drawn (copy c) u) st r e = refl
   delivery-unchanged (refused n) st r e = refl
 
-  -- where j is 0 all the entries are left
-  strike-unchanged : (o : Outcome ℕ) (es : List Entry) (j : ℕ) → isStruck j o ≡ false → afterStrike o b es j ≡ b
-  strike-unchanged (drawn n u) es j e =
-      let z : j ≡ 0 = eqb-true j 0 (not-false (eqb j 0) e) in
-      let t : leftBy j es ≡ es = rw z (take-all (length es - 0) es (omega arith)) in
-      sym (wipe-done b _ (lengthAll es) (lengthAll es) (omega arith) (omega arith) (ap (λ (x : List Entry). wiped (lengthAll x) (lengthAll es) b) (sym t)))
-  strike-unchanged (refused n) es j e = refl
+  -- where the entries stand that it names it is a strike, and elsewhere the book is as it was
+  from-unchanged : (ws : List ℕ) (j m : ℕ) → struckFrom ws b j m .changed ≡ false → struckFrom ws b j m .book ≡ b
+  unfolding strikeFrom strike strikeIn
+  from-unchanged ws j m e =
+      by-test (λ (x : List ℕ). x ≡ b) (eqb (length (booked ws b)) m)
+      (λ t. strike-unchanged b (strike ws b j .outcome) (booked ws b) j
+      (ap (λ (x : Service). x .changed) (sym (from-standing ws b j m (eqb-true (length (booked ws b)) m t))) ∙ e))
+      (λ _. refl)
 
   answer-unchanged : (ws : List ℕ) (k : ℕ) (v : Line) → answered ws b k v .changed ≡ false → answered ws b k v .book ≡ b
   unfolding deliver deliverTo strike strikeIn
   answer-unchanged ws k (Deliver s r) e = delivery-unchanged (deliver ws b s r .outcome) (standing (booked ws b)) r e
-  answer-unchanged ws k (Strike j) e = strike-unchanged (strike ws b j .outcome) (booked ws b) j e
+  answer-unchanged ws k (Strike j) e = strike-unchanged b (strike ws b j .outcome) (booked ws b) j e
+  answer-unchanged ws k (StrikeFrom j m) e = from-unchanged ws j m e
   answer-unchanged ws k Redraw e = refl
   answer-unchanged ws k Passed e = refl
   answer-unchanged ws k Unread e = refl

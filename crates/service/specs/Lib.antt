@@ -1,1 +1,3 @@
+pub mod StrikeFrom
 pub mod Service
+pub mod SentAgain

@@ -1,20 +1,22 @@
 -- RULES, 'Lines of pull': what comes of one line, that is what is said, the book after it, and whether the book has to be written.
 -- Assumes nothing.
 use Prim.Native.Nat.{ℕ}
-use mathlib.Core.Bool.{Bool, true, false, not}
+use mathlib.Core.Bool.{Bool, true, false, not, _&&_}
 use mathlib.Core.List.{List, []}
 use mathlib.Core.Path.{_≡_}
 use lib.Dec.{eqb}
+use lib.ListN.{length}
 use Rattle.words.specs.Outcome.{Outcome, drawn, refused}
-use Rattle.opening.specs.Calls.{Call}
+use Rattle.opening.specs.Calls.{Call, booked}
 use Rattle.book.specs.Deliver.{Booking, fresh, copy, deliver}
 use Rattle.book.specs.Strike.{strike}
 use Rattle.redraws.specs.Redraw.{redraw}
 use Rattle.writing.specs.Writing.{Writes}
 use Rattle.request_line.specs.declared.Line.{Line}
-use Rattle.request_line.specs.declared.Line.the-variants.{Deliver, Strike, Redraw, Passed, Unread}
+use Rattle.request_line.specs.declared.Line.the-variants.{Deliver, Strike, StrikeFrom, Redraw, Passed, Unread}
 use Rattle.request_line.specs.Forms.{readLine}
 use Rattle.answer_lines.specs.Answers.{deliveryLine, strikeLine, redrawLine, unreadLine}
+use Rattle.service.specs.StrikeFrom.{Striking, strikeFromLine, strikeFrom}
 
 pub record Service : Type 0 where
   -- the answer's line; nothing for a line that is passed over
@@ -34,7 +36,7 @@ isFresh (drawn (copy c) u) = false
 isFresh (refused n) = false
 
 -- a strike of 0 entries changes nothing
-abbrev pub isStruck : ℕ → Outcome ℕ → Bool
+abbrev pub isStruck : {A : Type 0} → ℕ → Outcome A → Bool
 isStruck j (drawn n u) = not (eqb j 0)
 isStruck j (refused n) = false
 
@@ -44,10 +46,18 @@ delivering s c = serving (deliveryLine s (c .outcome)) (c .book) (isFresh (c .ou
 abbrev pub striking : ℕ → Call ℕ → Service
 striking j c = serving (strikeLine (c .outcome)) (c .book) (isStruck j (c .outcome))
 
+-- a strike from m entries changes nothing where they don't stand
+abbrev pub strikingFrom : Bool → ℕ → Call Striking → Service
+strikingFrom stand j c = serving (strikeFromLine (c .outcome)) (c .book) (stand && isStruck j (c .outcome))
+
+abbrev pub struckFrom : List ℕ → List ℕ → ℕ → ℕ → Service
+struckFrom ws b j m = strikingFrom (eqb (length (booked ws b)) m) j (strikeFrom ws b j m)
+
 -- the call that a line asks for, over the words ws and the book b; a line that can't be read calls nothing, and is named by its number k
 abbrev pub answered : List ℕ → List ℕ → ℕ → Line → Service
 answered ws b k (Deliver s r) = delivering s (deliver ws b s r)
 answered ws b k (Strike j) = striking j (strike ws b j)
+answered ws b k (StrikeFrom j m) = struckFrom ws b j m
 answered ws b k Redraw = serving (redrawLine (redraw ws b)) b false
 answered ws b k Passed = serving [] b false
 answered ws b k Unread = serving (unreadLine k) b false

@@ -1,6 +1,7 @@
 // One line of the pull service: it is read, its call is made, and its answer is a line of bytes.
 use answer_lines::ANSWER_BYTES;
 use answer_lines::delivered_line;
+use answer_lines::kept_line;
 use answer_lines::redrawn_line;
 use answer_lines::struck_line;
 use answer_lines::unread_line;
@@ -8,12 +9,14 @@ use book::Delivered;
 use book::Struck;
 use kinds::Request;
 use request_line::Line;
+use words::Refusal;
 ghost use mathlib.Core.Path.{_≡_};
+ghost use Rattle.words.specs.Outcome.{drawn};
 ghost use Rattle.book.specs.Deliver.{delivered};
 ghost use Rattle.book.specs.Deliver as deliveries;
 ghost use Rattle.book.specs.Strike.{struck};
 ghost use Rattle.book.specs.Strike as strikes;
-ghost use Rattle.service.specs.Service.{Meets, ServeAllows, delivering, isFresh, isStruck, striking};
+ghost use Rattle.service.specs.Service.{Meets, ServeAllows, delivering, isFresh, isStruck, struckFrom, striking};
 
 // How many bytes of an answer there are, none where there is nothing to say; and whether the book has to be written before them.
 pub struct Served {
@@ -64,7 +67,68 @@ fn strike(tape: &[u64], book: &mut [u8], j: u64, out: &mut [u8; ANSWER_BYTES]) -
     Served { length, changed }
 }
 
-// Serves a line, without its newline; `number` is the line's, counted from 1. The answer stands at the front of `out`.
+// A strike of j from a number of entries, in a book where `standing` of them stand: 16; or the strike itself; or nothing is struck, and
+// the answer is that it was struck before, or how many stand.
+fn strike_standing(
+    tape: &[u64],
+    book: &mut [u8],
+    standing: u64,
+    j: u64,
+    entries: u64,
+    out: &mut [u8; ANSWER_BYTES],
+) -> Served
+    requires { ⌜ strikes.strike (now tape) (now book) 0 .outcome ≡ drawn standing 0 ⌝ }
+    ensures { λ r. ⌜ Meets (now (out .entry)) (struckFrom (now (tape .entry)) (now (book .entry)) j entries) (r .length) (r .changed) (now (book .exit)) (now (out .exit)) ⌝ }
+{
+    if entries < j {
+        let length = struck_line(Struck::Refused(Refusal::StrikeTooMany), out);
+        return Served {
+            length,
+            changed: false,
+        };
+    }
+    if standing == entries {
+        return strike(tape, book, j, out);
+    }
+    if standing == entries - j {
+        let length = struck_line(Struck::Left { entries: standing }, out);
+        return Served {
+            length,
+            changed: false,
+        };
+    }
+    let length = kept_line(standing, out);
+    Served {
+        length,
+        changed: false,
+    }
+}
+
+// A strike from a number of entries. A strike of 0 changes nothing, and answers how many stand.
+fn strike_from(
+    tape: &[u64],
+    book: &mut [u8],
+    j: u64,
+    entries: u64,
+    out: &mut [u8; ANSWER_BYTES],
+) -> Served
+    ensures { λ r. ⌜ Meets (now (out .entry)) (struckFrom (now (tape .entry)) (now (book .entry)) j entries) (r .length) (r .changed) (now (book .exit)) (now (out .exit)) ⌝ }
+{
+    match book::strike(tape, book, 0) {
+        Struck::Left { entries: standing } => {
+            strike_standing(tape, book, standing, j, entries, out)
+        }
+        Struck::Refused(refusal) => {
+            let length = struck_line(Struck::Refused(refusal), out);
+            Served {
+                length,
+                changed: false,
+            }
+        }
+    }
+}
+
+// Serves a line as it came, its newline with it; `number` is the line's, counted from 1. The answer stands at the front of `out`.
 pub fn serve(
     tape: &[u64],
     book: &mut [u8],
@@ -77,6 +141,7 @@ pub fn serve(
     match request_line::read(line) {
         Line::Deliver { serial, request } => deliver(tape, book, serial, request, out),
         Line::Strike { j } => strike(tape, book, j, out),
+        Line::StrikeFrom { j, entries } => strike_from(tape, book, j, entries, out),
         Line::Redraw => {
             let length = redrawn_line(redraws::redraw(tape, book), out);
             Served {

@@ -20,6 +20,12 @@ enum-known-j c = search needs
 strike-requires : tie.Need-strike-requires
 strike-requires c κs = search needs
 
+enum-known-j-2 : tie.Need-enum-known-j-2
+enum-known-j-2 c = search needs
+
+strike-from-requires : tie.Need-strike-from-requires
+strike-from-requires c κs = search needs
+
 enum-told : tie.Need-enum-told
 enum-told c = search needs
 
@@ -61,16 +67,25 @@ same-length-3 c = search needs
 
 returns-3 : tie.Need-returns-3
 returns-3 c =
+    let at-strike = c .before .before in
+    let m = at-strike .before .before .before .before in
+    line-met _ _ _ _ _ _ _ _ _ _ (sym (m .before .before .read .ensures) ∙ m .j2 .given .1) (at-strike .strike-from .ensures)
+
+same-length-4 : tie.Need-same-length-4
+same-length-4 c = search needs
+
+returns-4 : tie.Need-returns-4
+returns-4 c =
     let m = c .before .before .before .before in
     line-met _ _ _ _ _ _ _ _ _ _ (sym (m .before .before .read .ensures) ∙ m .enum-told .given .1)
     (redraw-met _ _ _ _ _ _ _ (c .before .before .redraw .ensures) (c .redrawn-line .ensures))
 
-returns-4 : tie.Need-returns-4
-returns-4 c =
-    line-met _ _ _ _ _ _ _ _ _ _ (sym (c .before .before .read .ensures) ∙ c .enum-told2 .given .1) (met _ _ _ _ _ _ (silent _))
-
 returns-5 : tie.Need-returns-5
 returns-5 c =
+    line-met _ _ _ _ _ _ _ _ _ _ (sym (c .before .before .read .ensures) ∙ c .enum-told2 .given .1) (met _ _ _ _ _ _ (silent _))
+
+returns-6 : tie.Need-returns-6
+returns-6 c =
     let m = c .before .before in
     line-met _ _ _ _ _ _ _ _ _ _ (sym (m .before .before .read .ensures) ∙ m .enum-told3 .given .1) (met _ _ _ _ _ _ (c .unread-line .ensures))
 
@@ -83,6 +98,8 @@ serve-spec =
     deliver-requires
     enum-known-j
     strike-requires
+    enum-known-j-2
+    strike-from-requires
     enum-told
     redraw-requires
     redrawn-line-requires
@@ -95,5 +112,7 @@ serve-spec =
     returns-2
     same-length-3
     returns-3
+    same-length-4
     returns-4
-    returns-5)
+    returns-5
+    returns-6)
