@@ -18,9 +18,9 @@ use Rattle.entry.specs.declared.Entry.{Entry}
 use Rattle.entry.specs.Entry.{booking, blank}
 use Rattle.layout.specs.Book.{lengthAll, usedAll, encode, mostBytes}
 use Rattle.kinds.proofs.Requests.{same-self}
-use Rattle.layout.proofs.Decoding.{Chain, no-entries}
+use Rattle.layout.proofs.Decoding.{Chain, no-entries, zeros-decode}
 use Rattle.layout.proofs.Positions.{length-all-append, chain-mid}
-use Rattle.opening.specs.Calls.{Call, call, booked, limits}
+use Rattle.opening.specs.Calls.{Call, call, bookedFor, booked, limits}
 use Rattle.layout.specs.Standing.{standing}
 use Rattle.book.specs.Deliver.{Booking, fresh, copy, bookedAt, deliverRefusals, delivery, delivering, deliverTo, deliver}
 use Rattle.book.specs.Strike.{strikeRefusals, leftBy, striking, strikeIn, strike}
@@ -70,11 +70,18 @@ module _ (ws : List ℕ) (n : ℕ) (over : length ws ≤ mostWords → n ≤ mos
         clean = λ a b. absurd (over a b);
       }
 
+  over-still : (os : List Operation) → run ws (state (replicate n 0) []) os ≡ state (replicate n 0) []
+  over-still os =
+      all-still ws os (state (replicate n 0) [])
+      (λ h. over (open-tape ws (replicate n 0) h) (rw length-replicate at (open-book (length ws) (replicate n 0) h)))
+
   over-kept : (os : List Operation) → Kept ws n (run ws (state (replicate n 0) []) os)
-  over-kept os =
-      rw (all-still ws os (state (replicate n 0) [])
-      (λ h. over (open-tape ws (replicate n 0) h) (rw length-replicate at (open-book (length ws) (replicate n 0) h))))
-      empty-kept
+  over-kept os = rw (over-still os) empty-kept
+
+-- a book of zeros has no entry, whatever the limits
+none-booked : (t n : ℕ) → bookedFor t (replicate n 0) ≡ []
+unfolding bookedFor
+none-booked t n = rw (zeros-decode t n)
 
 -- ---- within them: the book holds entries that stand, and the history is theirs
 
@@ -226,6 +233,28 @@ all-kept ws n os fit =
       ]
       | no a ↦ over-kept ws n (λ x _. a x) os
     ]
+
+-- and the entries that it holds are as many as the history has
+module _ (ws : List ℕ) (n : ℕ) (os : List Operation) where
+  abbrev last : State
+  last = run ws (state (replicate n 0) []) os
+
+  held-agrees : length ws ≤ mostWords → n ≤ mostBytes → Held ws n last → length (booked ws (last .book)) ≡ length (last .history)
+  held-agrees a b hd =
+      rw (← hd .holds, ← hd .history-is, length-map (hd .entries) stoodOf) (ap length (found ws n a b (hd .entries) (hd .stands) .1))
+
+  over-agrees : (length ws ≤ mostWords → n ≤ mostBytes → ⊥) → length (booked ws (last .book)) ≡ length (last .history)
+  over-agrees over = rw (over-still ws n over os) (ap length (none-booked (length ws) n))
+
+  pub run-agrees : OperationsFit os → length (booked ws (last .book)) ≡ length (last .history)
+  run-agrees fit =
+      elim (decLe (length ws) mostWords) [
+        | yes a ↦ elim (decLe n mostBytes) [
+          | yes b ↦ held-agrees a b (run-held ws n a b os (state (replicate n 0) []) fit (empty-held ws n a b))
+          | no b ↦ over-agrees (λ _ y. b y)
+        ]
+        | no a ↦ over-agrees (λ x _. a x)
+      ]
 
 -- ---- the answers
 

@@ -1,6 +1,6 @@
 -- The pull service keeps demand 3, proved: its lines are calls of that demand, and a request that is read fits 64 bits. Assumes nothing.
-use mathlib.Core.Path.{_≡_, refl, sym, _∙_}
-use mathlib.Core.Bool.{false, _&&_}
+use mathlib.Core.Path.{_≡_, refl, _∙_}
+use mathlib.Core.Bool.{false, cond, _&&_}
 use mathlib.Core.List.{List, [], _∷_, _++_}
 use Prim.Native.Nat.{ℕ, suc, _-_, _^_, _<_}
 use native.Mathlib.Omega.{arith}
@@ -10,7 +10,7 @@ use lib.Ieee.Bits.{toBits-lt}
 use lib.Ieee.Fits.{round-fits}
 use lib.ListN.{length, drop, replicate}
 use Rattle.kinds.specs.declared.Request.{Request}
-use Rattle.kinds.specs.Kinds.{numbered, kindOf, parametersOf}
+use Rattle.kinds.specs.Kinds.{numbered, kindOf, parametersOf, RequestFits}
 use Rattle.layout.proofs.Decoding.{by-test}
 use Rattle.numerals.specs.declared.Number.{Number}
 use Rattle.numerals.specs.declared.Number.the-variants as read
@@ -19,13 +19,17 @@ use Rattle.numerals.specs.Digits.{number}
 use Rattle.numerals.specs.Decimal.{isDecimal, wholeOf, placesOf, isShort, nearestBits, decimalBits, isHexadecimal, floatBits}
 use Rattle.numerals.proofs.Reading.{number-within}
 use Rattle.request_line.specs.declared.Line.{Line}
-use Rattle.request_line.specs.declared.Line.the-variants.{Deliver, Strike, Redraw, Passed, Unread}
+use Rattle.request_line.specs.declared.Line.the-variants.{Deliver, Strike, StrikeFrom, Redraw, Passed, Unread}
 use Rattle.request_line.specs.Words.{word, words, sameText}
-use Rattle.request_line.specs.Forms.{deliverText, strikeText, redrawText, hypergeometricText, poissonText, geometricText, standardText, isForm, onNumber, numberAt, trayAsked, poissonAsked, geometricAsked, requestAsked, onAsked, deliverLine, strikeLine, redrawLine, callLine, isPassed, readLine}
+use Rattle.request_line.specs.Ends.{textOf, isLine}
+use Rattle.request_line.specs.Forms.{deliverText, strikeText, fromText, redrawText, hypergeometricText, poissonText, geometricText, standardText, isForm, onNumber, numberAt, trayAsked, poissonAsked, geometricAsked, requestAsked, onAsked, deliverLine, strikeLine, strikeFromLine, anyStrikeLine, redrawLine, callLine, isPassed, readText, readLine}
+use Rattle.opening.specs.Calls.{booked}
+use Rattle.book.specs.Strike.{strike}
+use Rattle.service.specs.StrikeFrom.{strikeFrom}
 use Rattle.service.specs.Service.{answered, serve}
-use Rattle.demands.specs.Demand3.{Operation, delivering, striking, State, state, OperationsFit}
-use Rattle.demands.specs.Lines.{operationOf, operationsOf, next, run, ServedAll, LinesKept}
-use Rattle.demands.proofs.Demand3.{all-kept}
+use Rattle.demands.specs.Demand3.{Operation, delivering, striking, State, state, OperationsFit, Kept}
+use Rattle.demands.specs.Lines.{operationOf, next, run, afterLines, ServedAll, LinesKept}
+use Rattle.demands.proofs.Demand3.{all-kept, run-agrees}
 
 -- ---- the book that the lines leave is the one that their calls leave
 
@@ -34,22 +38,25 @@ run-append : (ws : List ℕ) (os ps : List Operation) (st : State) → run ws st
 run-append ws [] ps st = refl
 run-append ws (o ∷ os) ps st = run-append ws os ps (next ws st o)
 
--- one line's book is the one that its call leaves, if it asks for one
-answered-run : (ws : List ℕ) (st : State) (k : ℕ) (x : Line) → answered ws (st .book) k x .book ≡ run ws st (operationOf x) .book
-answered-run ws st k (Deliver s r) = refl
-answered-run ws st k (Strike j) = refl
-answered-run ws st k Redraw = refl
-answered-run ws st k Passed = refl
-answered-run ws st k Unread = refl
+-- and fit where both do
+append-fits : (os ps : List Operation) → OperationsFit os → OperationsFit ps → OperationsFit (os ++ ps)
+append-fits [] ps h k = k
+append-fits (delivering s r ∷ os) ps h k = (h .0, append-fits os ps (h .1) k)
+append-fits (striking j ∷ os) ps h k = append-fits os ps h k
 
--- and so for lines one after another
-served-run : (ws : List ℕ) (ls : List (List ℕ)) (st : State) (k : ℕ) (c : List ℕ) → ServedAll ws (st .book) k ls c → c ≡ run ws st (operationsOf ls) .book
-unfolding serve operationsOf
-served-run ws [] st k c s = sym s
-served-run ws (l ∷ ls) st k c s =
-    let os : List Operation = operationOf (readLine l) in
-    let left : s .0 ≡ run ws st os .book = s .1 .0 .allowed .leaves ∙ answered-run ws st k (readLine l) in
-    rw (run-append ws os (operationsOf ls) st) (served-run ws ls (run ws st os) (suc k) c (rw left at (s .1 .1)))
+-- one line's book is the one that its call leaves, if it asks for one, where the book holds as many entries as the history has
+module _ (ws : List ℕ) (st : State) (k : ℕ) (same : length (booked ws (st .book)) ≡ length (st .history)) where
+  answered-run : (x : Line) → answered ws (st .book) k x .book ≡ run ws st (operationOf (length (st .history)) x) .book
+  unfolding strikeFrom
+  answered-run (Deliver s r) = refl
+  answered-run (Strike j) = refl
+  answered-run (StrikeFrom j m) =
+      rw same
+      (by-test (λ (os : List Operation). cond (eqb (length (st .history)) m) (strike ws (st .book) j .book) (st .book) ≡ run ws st os .book)
+      (eqb (length (st .history)) m) (λ t. rw t) (λ t. rw t))
+  answered-run Redraw = refl
+  answered-run Passed = refl
+  answered-run Unread = refl
 
 -- ---- a number that is read is below 2^64
 
@@ -81,7 +88,21 @@ by-number P read.Unread g h = h
 
 -- a line's request, if it has one, has parameters of 64 bits
 abbrev LineFits : Line → Type 0
-LineFits x = OperationsFit (operationOf x)
+LineFits (Deliver s r) = RequestFits r
+LineFits (Strike j) = Unit
+LineFits (StrikeFrom j m) = Unit
+LineFits Redraw = Unit
+LineFits Passed = Unit
+LineFits Unread = Unit
+
+-- and so has its call
+operation-fits : (n : ℕ) (x : Line) → LineFits x → OperationsFit (operationOf n x)
+operation-fits n (Deliver s r) f = (f, tt)
+operation-fits n (Strike j) f = tt
+operation-fits n (StrikeFrom j m) f = by-test OperationsFit (eqb n m) (λ _. tt) (λ _. tt)
+operation-fits n Redraw f = tt
+operation-fits n Passed f = tt
+operation-fits n Unread f = tt
 
 -- the same of what f makes a line of
 abbrev FitsBy : {X : Type 0} → (X → Line) → X → Type 0
@@ -97,37 +118,52 @@ module _ (l : List ℕ) where
       (λ _. by-number P (numberAt 3 l)
       (λ N a. by-number P (numberAt 4 l)
       (λ K b. by-number P (numberAt 5 l)
-      (λ n c. ((number-below 10 N (word 3 l) a, (number-below 10 K (word 4 l) b, (number-below 10 n (word 5 l) c, tt))), tt)) tt) tt) tt)
-      (λ _. by-test P (isForm 4 2 poissonText l) (λ _. by-number P (floatBits (word 3 l)) (λ v e. ((float-below v (word 3 l) e, tt), tt)) tt)
-      (λ _. by-test P (isForm 4 2 geometricText l) (λ _. by-number P (floatBits (word 3 l)) (λ v e. ((float-below v (word 3 l) e, tt), tt)) tt)
-      (λ _. by-test P (isForm 3 2 standardText l) (λ _. (tt, tt)) (λ _. tt))))
+      (λ n c. (number-below 10 N (word 3 l) a, (number-below 10 K (word 4 l) b, (number-below 10 n (word 5 l) c, tt)))) tt) tt) tt)
+      (λ _. by-test P (isForm 4 2 poissonText l) (λ _. by-number P (floatBits (word 3 l)) (λ v e. (float-below v (word 3 l) e, tt)) tt)
+      (λ _. by-test P (isForm 4 2 geometricText l) (λ _. by-number P (floatBits (word 3 l)) (λ v e. (float-below v (word 3 l) e, tt)) tt)
+      (λ _. by-test P (isForm 3 2 standardText l) (λ _. tt) (λ _. tt))))
 
-  -- every line: only a delivery has a request
-  line-fits : LineFits (readLine l)
-  unfolding readLine callLine deliverLine strikeLine redrawLine
-  line-fits =
+  -- either strike has none
+  strike-fits : LineFits (anyStrikeLine l)
+  unfolding anyStrikeLine strikeFromLine strikeLine
+  strike-fits =
+      by-test LineFits (isForm 4 2 fromText l)
+      (λ _. by-number LineFits (numberAt 1 l) (λ j _. by-number LineFits (numberAt 3 l) (λ m _. tt) tt) tt)
+      (λ _. by-test LineFits (eqb (words l) 2) (λ _. by-number LineFits (numberAt 1 l) (λ j _. tt) tt) (λ _. tt))
+
+  -- every text: only a delivery has a request
+  text-fits : LineFits (readText l)
+  unfolding readText callLine deliverLine redrawLine
+  text-fits =
       by-test LineFits (ltb 255 (length l)) (λ _. tt)
       (λ _. by-test LineFits (isPassed l) (λ _. tt)
       (λ _. by-test LineFits (sameText (word 0 l) deliverText) (λ _. by-number LineFits (number 10 (2 ^ 32 - 1) (word 1 l)) (λ s _. request-fits s) tt)
-      (λ _. by-test LineFits (sameText (word 0 l) strikeText)
-      (λ _. by-test LineFits (eqb (words l) 2) (λ _. by-number LineFits (numberAt 1 l) (λ j _. tt) tt) (λ _. tt))
+      (λ _. by-test LineFits (sameText (word 0 l) strikeText) (λ _. strike-fits)
       (λ _. by-test LineFits (sameText (word 0 l) redrawText) (λ _. by-test LineFits (eqb (words l) 1) (λ _. tt) (λ _. tt)) (λ _. tt)))))
 
--- ---- and so do the calls of all lines
+-- and so every line
+line-fits : (l : List ℕ) → LineFits (readLine l)
+unfolding readLine
+line-fits l = by-test LineFits (isLine l) (λ _. text-fits (textOf l)) (λ _. tt)
 
--- calls that fit after calls that fit
-append-fits : (os ps : List Operation) → OperationsFit os → OperationsFit ps → OperationsFit (os ++ ps)
-append-fits [] ps h k = k
-append-fits (delivering s r ∷ os) ps h k = (h .0, append-fits os ps (h .1) k)
-append-fits (striking j ∷ os) ps h k = append-fits os ps h k
+-- ---- so demand 3 is kept by lines one after another
 
--- the calls that lines ask for
-operations-fit : (ls : List (List ℕ)) → OperationsFit (operationsOf ls)
-unfolding operationsOf
-operations-fit [] = tt
-operations-fit (l ∷ ls) = append-fits (operationOf (readLine l)) (operationsOf ls) (line-fits l) (operations-fit ls)
+module _ (ws : List ℕ) (n : ℕ) where
+  abbrev empty : State
+  empty = state (replicate n 0) []
 
--- demand 3 for these calls, at the book that the service leaves
+  -- after calls that fit, lines leave the book that they and the calls before them leave
+  served-kept : (ls : List (List ℕ)) (os : List Operation) → OperationsFit os → (k : ℕ) (c : List ℕ) → ServedAll ws (run ws empty os .book) k ls c
+      → Kept ws n (state c (afterLines ws (run ws empty os) ls .history))
+  unfolding serve
+  served-kept [] os fit k c s = rw (← s) (all-kept ws n os fit)
+  served-kept (l ∷ ls) os fit k c s =
+      let st : State = run ws empty os in
+      let ps : List Operation = operationOf (length (st .history)) (readLine l) in
+      let on : run ws empty (os ++ ps) ≡ run ws st ps = run-append ws os ps empty in
+      let left : s .0 ≡ run ws st ps .book = s .1 .0 .allowed .leaves ∙ answered-run ws st k (run-agrees ws n os fit) (readLine l) in
+      rw on at
+      (served-kept ls (os ++ ps) (append-fits os ps fit (operation-fits (length (st .history)) (readLine l) (line-fits l))) (suc k) c (rw (on, ← left) (s .1 .1)))
+
 pub lines-kept : LinesKept
-lines-kept ws n k ls c s =
-    rw (served-run ws ls (state (replicate n 0) []) k c s) (all-kept ws n (operationsOf ls) (operations-fit ls))
+lines-kept ws n k ls c s = served-kept ws n ls [] tt k c s

@@ -14,6 +14,7 @@ use Rattle.draws.specs.Request.{drawing}
 use Rattle.book.specs.Deliver.{freshRefusals, deliverRefusals}
 use Rattle.book.specs.Strike.{strikeRefusals}
 use Rattle.redraws.specs.Redraw.{redrawRefusals}
+use Rattle.service.specs.StrikeFrom.{strikeFromRefusals}
 use Rattle.demands.specs.Demand2.{deliverConditions}
 use Rattle.demands.specs.Orders.{orderOf, drawOrder, deliverOrder, Orders}
 
@@ -32,13 +33,14 @@ delivery-order ws b s (Geometric p) = refl
 delivery-order ws b s StandardGeometric = refl
 
 pub orders : Orders
-unfolding trayRefusals strikeRefusals redrawRefusals
+unfolding trayRefusals strikeRefusals strikeFromRefusals redrawRefusals
 orders =
     record {
       draws = draw-order;
       set-ups = λ N K n. refl;
       deliveries = delivery-order;
       strikes = λ ws b j. refl;
+      strikes-from = λ ws b j m. refl;
       redraws = λ ws b. refl;
       listings = λ b. refl;
     }

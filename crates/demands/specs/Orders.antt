@@ -9,6 +9,7 @@ use Rattle.kinds.specs.declared.Request.the-variants.{Hypergeometric, Poisson, 
 use Rattle.hypergeometric.specs.SetUp.{trayRefusals}
 use Rattle.draws.specs.Request.{drawing}
 use Rattle.book_lines.specs.Listing.{listingRefusals}
+use Rattle.service.specs.StrikeFrom.{strikeFromRefusals}
 use Rattle.demands.specs.Demand2.{deliverConditions, strikeConditions, redrawConditions}
 
 -- the numbers of a list of conditions
@@ -35,5 +36,6 @@ pub record Orders : Type 0 where
   pub set-ups : (N K n : ℕ) → orderOf (trayRefusals N K n) ≡ 3 ∷ 4 ∷ 5 ∷ 6 ∷ 2 ∷ []
   pub deliveries : (ws b : List ℕ) (s : ℕ) (r : Request) → orderOf (deliverConditions ws b s r) ≡ deliverOrder r
   pub strikes : (ws b : List ℕ) (j : ℕ) → orderOf (strikeConditions ws b j) ≡ 1 ∷ 11 ∷ 12 ∷ 16 ∷ []
+  pub strikes-from : (ws b : List ℕ) (j m : ℕ) → orderOf (strikeFromRefusals ws b j m) ≡ 1 ∷ 11 ∷ 12 ∷ 16 ∷ []
   pub redraws : (ws b : List ℕ) → orderOf (redrawConditions ws b) ≡ 1 ∷ 11 ∷ 12 ∷ 17 ∷ []
   pub listings : (b : List ℕ) → orderOf (listingRefusals b) ≡ 1 ∷ 11 ∷ 12 ∷ []
