@@ -9,8 +9,9 @@ use libc::STDIN_FILENO;
 use libc::STDOUT_FILENO;
 use std::num::wrapping_add_u64;
 
-// Of a line this many bytes are kept, one more than a line may have: enough to tell that it is too long.
-const LINE_BYTES: usize = 256;
+// Of a line this many bytes are kept: a text of 255, a carriage return and the newline. Of a longer one the newline is not, so that
+// what is kept of it is no line.
+const LINE_BYTES: usize = 257;
 
 // How far the reading is: the number of the line at hand, how many of its bytes are kept, and whether to go on.
 struct Reading {
@@ -58,7 +59,7 @@ fn take_byte(
     ensures { λ r. ⌜ r .length ≤ size (now (line .entry)) ⌝ }
 {
     let number = reading.number;
-    let length = reading.length;
+    let length = keep(line, reading.length, byte);
     if byte == b'\n' {
         let goes_on = answer(tape, book, path, &line[..length], number);
         return Reading {
@@ -69,7 +70,7 @@ fn take_byte(
     }
     Reading {
         number,
-        length: keep(line, length, byte),
+        length,
         goes_on: true,
     }
 }
@@ -98,7 +99,7 @@ fn take_bytes(
     now
 }
 
-// One read, and the lines that it ends. At the end of the input the last line may lack its newline.
+// One read, and the lines that it ends. What the input has after its last newline was cut off: it is handed on as it is, and is no line.
 fn take_some(
     tape: &[u64],
     book: &mut [u8],

@@ -7,7 +7,7 @@ use Rattle.pull.proofs.lines.answer_all.Statement.{statement}
 use Rattle.pull.proofs.lines.answer_all.Tie as tie
 
 abbrev Inv-loop : tie.InvT-loop
-Inv-loop tape book₀ path line₀ reading₀ turns₀ book line reading turns = (reading .length ≤ 256) × (length line ≡ 256) × (length book ≡ length book₀)
+Inv-loop tape book₀ path line₀ reading₀ turns₀ book line reading turns = (reading .length ≤ 257) × (length line ≡ 257) × (length book ≡ length book₀)
 
 abbrev μ-loop : tie.MeasureT-loop
 μ-loop tape book₀ path line₀ reading₀ turns₀ book line reading turns = turns

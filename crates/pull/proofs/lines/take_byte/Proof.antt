@@ -5,6 +5,9 @@ use lib.Seq.{length-take-le}
 use Rattle.pull.proofs.lines.take_byte.Statement.{statement}
 use Rattle.pull.proofs.lines.take_byte.Tie as tie
 
+keep-requires : tie.Need-keep-requires
+keep-requires c κs = search needs
+
 slice-reshare-prefix-answer : tie.Need-slice-reshare-prefix-answer
 slice-reshare-prefix-answer c = search needs
 
@@ -26,9 +29,6 @@ same-length-2 c = search needs
 returns : tie.Need-returns
 returns c = search needs
 
-keep-requires : tie.Need-keep-requires
-keep-requires c κs = search needs
-
 same-length-3 : tie.Need-same-length-3
 same-length-3 c = search needs
 
@@ -39,6 +39,7 @@ pub take-byte-spec : {M : Type 1} → statement M
 take-byte-spec =
     tie.close
     (tie.spec
+    keep-requires
     slice-reshare-prefix-answer
     slice-aggregate-answer
     answer-requires
@@ -46,6 +47,5 @@ take-byte-spec =
     same-length
     same-length-2
     returns
-    keep-requires
     same-length-3
     returns-2)
