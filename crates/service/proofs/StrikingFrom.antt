@@ -1,12 +1,12 @@
 -- A strike from a number of entries, way by way. Assumes nothing.
-use mathlib.Core.Path.{_≡_, refl, sym, ap, subst, _∙_}
+use mathlib.Core.Path.{_≡_, refl, sym, ap, ap₂, subst, _∙_}
 use mathlib.Core.Bool.{Bool, true, false, cond, _&&_, and-false, or-true}
 use mathlib.Core.List.{List, [], _∷_, _++_}
 use mathlib.Core.Logic.{_⊎_, inl, inr}
 use Prim.Native.Nat.{ℕ, _-_, _≤_, _<_}
 use native.Mathlib.Omega.{arith}
 use lib.Dec.{eqb, ltb}
-use lib.ListN.{length}
+use lib.ListN.{length, drop}
 use lib.Seq.{take-all}
 use borrow.Author.Tests.{eq-eqb, ne-eqb, eqb-true, lt-ltb, le-ltb, ltb-true, not-false}
 use Rattle.words.specs.Outcome.{Outcome, drawn, refused}
@@ -102,57 +102,47 @@ module _ (ws b : List ℕ) where
       go (inr (h, inr f)) = absurd (f .1)
 
   module _ (j m : ℕ) where
+    -- the conditions after the limits
     abbrev own : List Condition
-    own = 16 on ltb m j ∷ []
+    own = drop 3 (strikeFromRefusals ws b j m)
 
     abbrev came : Outcome Striking
     came = drawn (byEntries standing j m) 0
 
-    -- the book stays as it was where a strike would leave it so, or another number stands
-    book-stays : (standing ≡ m → strike ws b j .book ≡ b) → afterStrikeFrom ws b j m ≡ b
-    book-stays f = by-test (λ (x : List ℕ). x ≡ b) (eqb standing m) (λ t. f (eqb-true standing m t)) (λ t. refl)
+    -- what it comes to, with a book as it was: a strike would leave it so, or another number stands
+    unmoved : (o : Outcome Striking) → strikeFrom ws b j m .outcome ≡ o → (standing ≡ m → strike ws b j .book ≡ b) → strikeFrom ws b j m ≡ call o b
+    unfolding strikeFrom
+    unmoved o e f =
+        ap₂ call e (by-test (λ (x : List ℕ). x ≡ b) (eqb standing m) (λ t. f (eqb-true standing m t)) (λ _. refl))
 
     -- a limit stops it, as it does a strike
     pub from-stopped : (n : ℕ) → First n (limits ws b) → strikeFrom ws b j m ≡ call (refused n) b
     unfolding strikeFrom strikeFromRefusals
-    from-stopped n f =
-        rw (stopped ws b own came n f, book-stays (λ _. ap (λ (x : Call ℕ). x .book) (sym (strike-stopped ws b j n f))))
+    from-stopped n f = unmoved (refused n) (stopped ws b own came n f) (λ _. ap (λ (x : Call ℕ). x .book) (sym (strike-stopped ws b j n f)))
 
     -- past the limits
     module _ (h : NoneHolds (limits ws b)) where
       pub from-many : m < j → strikeFrom ws b j m ≡ call (refused 16) b
       unfolding strikeFrom strikeFromRefusals
       from-many l =
-          rw (
-            past-limits ws b own came h,
-            lt-ltb m j l,
-            book-stays (λ e. ap (λ (x : Call ℕ). x .book) (sym (strike-many ws b j h (omega arith)))),
-          )
+          unmoved (refused 16) (past-limits ws b own came h ∙ rw (lt-ltb m j l))
+          (λ e. ap (λ (x : Call ℕ). x .book) (sym (strike-many ws b j h (omega arith))))
 
       -- another number of entries than m
       module _ (l : j ≤ m) (other : standing ≡ m → ⊥) where
         pub from-before : standing ≡ m - j → strikeFrom ws b j m ≡ call (drawn (left standing) 0) b
         unfolding strikeFrom strikeFromRefusals
         from-before e =
-            rw (
-              past-limits ws b own came h,
-              le-ltb m j l,
-              book-stays (λ q. absurd (other q)),
-              ne-eqb standing m other,
-              eq-eqb standing (m - j) e,
-              e,
-            )
+            unmoved (drawn (left standing) 0)
+            (past-limits ws b own came h ∙ rw (le-ltb m j l, ne-eqb standing m other, eq-eqb standing (m - j) e, e))
+            (λ q. absurd (other q))
 
         pub from-other : (standing ≡ m - j → ⊥) → strikeFrom ws b j m ≡ call (drawn (kept standing) 0) b
         unfolding strikeFrom strikeFromRefusals
         from-other e =
-            rw (
-              past-limits ws b own came h,
-              le-ltb m j l,
-              book-stays (λ q. absurd (other q)),
-              ne-eqb standing m other,
-              ne-eqb standing (m - j) e,
-            )
+            unmoved (drawn (kept standing) 0)
+            (past-limits ws b own came h ∙ rw (le-ltb m j l, ne-eqb standing m other, ne-eqb standing (m - j) e))
+            (λ q. absurd (other q))
 
 -- ---- what the code says and leaves
 
