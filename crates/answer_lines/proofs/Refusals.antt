@@ -1,5 +1,5 @@
 -- Laws of a refusal's line. Assumes nothing.
-use mathlib.Core.Path.{_≡_, refl}
+use mathlib.Core.Path.{_≡_}
 use mathlib.Core.List.{List, [], _∷_, _++_, append-assoc}
 use Prim.Native.Nat.{ℕ, _^_, _≤_, _<_}
 use native.Mathlib.Omega.{arith}
@@ -8,7 +8,7 @@ use lib.Seq.{append-snoc}
 use Rattle.writing.specs.Digits.{decimal}
 use Rattle.writing.specs.Writing.{Writes}
 use Rattle.writing.proofs.Writing.{written-next, length-decimal}
-use Rattle.lines.specs.Lines.{line, refusedText, serialText}
+use Rattle.lines.specs.Lines.{line, refusedText}
 use Rattle.names.specs.Names.{nameOf}
 use Rattle.names.proofs.Names.{name-short}
 use Rattle.answer_lines.specs.Answers.{refusalLine}

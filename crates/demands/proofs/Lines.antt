@@ -20,7 +20,8 @@ use Rattle.numerals.specs.Decimal.{isDecimal, wholeOf, placesOf, isShort, neare
 use Rattle.numerals.proofs.Reading.{number-within}
 use Rattle.request_line.specs.declared.Line.{Line}
 use Rattle.request_line.specs.declared.Line.the-variants.{Deliver, Strike, StrikeFrom, Redraw, Passed, Unread}
-use Rattle.request_line.specs.Words.{word, words, sameText}
+use Rattle.parted.specs.Parts.{word}
+use Rattle.request_line.specs.Words.{words, sameText}
 use Rattle.request_line.specs.Ends.{textOf, isLine}
 use Rattle.request_line.specs.Forms.{deliverText, strikeText, fromText, redrawText, hypergeometricText, poissonText, geometricText, standardText, isForm, onNumber, numberAt, trayAsked, poissonAsked, geometricAsked, requestAsked, onAsked, deliverLine, strikeLine, strikeFromLine, anyStrikeLine, redrawLine, callLine, isPassed, readText, readLine}
 use Rattle.opening.specs.Calls.{booked}

@@ -1,33 +1,120 @@
--- Laws of the table of names. Assumes nothing.
-use mathlib.Core.Path.{_≡_, refl}
-use mathlib.Core.Bool.{Bool, true, false, cond, _&&_}
-use mathlib.Core.List.{List, [], _∷_}
-use Prim.Native.Nat.{ℕ, _≤_}
+-- Laws of the table of names: what is computed of it, and that the word of a number in the text of all names is that number's name. Assumes
+-- nothing.
+use mathlib.Core.Path.{_≡_, refl, ap, _∙_}
+use mathlib.Core.Bool.{Bool, true, false, cond, not, _&&_}
+use mathlib.Core.List.{List, [], _∷_, _++_}
+use Prim.Native.Nat.{ℕ, zero, suc, _+_, _≤_}
 use native.Mathlib.Omega.{arith}
-use lib.Dec.{T, eqb, leb, leb→le}
+use lib.Dec.{T, eqb, leb, leb→le, eqb→eq}
 use lib.Ieee.Fits.{and-l, and-r}
+use denote.Floats.{is-true}
 use lib.ListN.{length}
+use borrow.Author.Tests.{eq-eqb, ne-eqb, not-true}
+use Rattle.bytes.specs.Bytes.{indexAfter, indexOf}
+use Rattle.numerals.specs.Split.{upTo, past}
+use Rattle.parted.specs.Parts.{space, pastWords, word}
 use Rattle.words.specs.Paper.{numberOf}
 use Rattle.names.specs.Names.{Named, names, nameIn, nameOf}
 
--- whether no row's name has more than m letters
-abbrev allShort : ℕ → List Named → Bool
-allShort m [] = true
-allShort m (r ∷ rs) = leb (length (r .name)) m && allShort m rs
+-- ---- the test: rows from the number s on, one by one, each with a name of at most m letters and no space
 
--- then none that is found has: the row's own, or one of a later row
-found-short : (m n : ℕ) (rs : List Named) → T (allShort m rs) → length (nameIn rs n) ≤ m
-found-short m n [] t = omega arith
-found-short m n (r ∷ rs) t =
-    let here : Bool = leb (length (r .name)) m in
-    either (eqb (numberOf (r .refusal)) n) (r .name) (nameIn rs n)
-    (leb→le (length (r .name)) m (and-l here (allShort m rs) t)) (found-short m n rs (and-r here (allShort m rs) t))
-  where
-    either : (x : Bool) (t u : List ℕ) → length t ≤ m → length u ≤ m → length (cond x t u) ≤ m
-    either true t u h k = h
-    either false t u h k = k
+abbrev hasNoSpace : List ℕ → Bool
+hasNoSpace [] = true
+hasNoSpace (x ∷ xs) = not (eqb x space) && hasNoSpace xs
 
--- the table's longest has 19
+abbrev isRow : ℕ → ℕ → Named → Bool
+isRow m s r = eqb (numberOf (r .refusal)) s && (hasNoSpace (r .name) && leb (length (r .name)) m)
+
+abbrev inOrder : ℕ → ℕ → List Named → Bool
+inOrder m s [] = true
+inOrder m s (r ∷ rs) = isRow m s r && inOrder m (suc s) rs
+
+names-in-order : T (inOrder 19 1 names)
+names-in-order = tt
+
+-- what a row that passes it has
+module _ (m s : ℕ) (r : Named) (t : T (isRow m s r)) where
+  its-number : numberOf (r .refusal) ≡ s
+  its-number = eqb→eq (numberOf (r .refusal)) s (and-l (eqb (numberOf (r .refusal)) s) _ t)
+
+  its-letters : T (hasNoSpace (r .name) && leb (length (r .name)) m)
+  its-letters = and-r (eqb (numberOf (r .refusal)) s) _ t
+
+  no-space : T (hasNoSpace (r .name))
+  no-space = and-l (hasNoSpace (r .name)) (leb (length (r .name)) m) its-letters
+
+  its-length : length (r .name) ≤ m
+  its-length = leb→le (length (r .name)) m (and-r (hasNoSpace (r .name)) (leb (length (r .name)) m) its-letters)
+
+-- ---- how long a name is
+
+either-short : (m : ℕ) (x : Bool) (t u : List ℕ) → length t ≤ m → length u ≤ m → length (cond x t u) ≤ m
+either-short m true t u h k = h
+either-short m false t u h k = k
+
+found-short : (m s n : ℕ) (rs : List Named) → T (inOrder m s rs) → length (nameIn rs n) ≤ m
+found-short m s n [] t = omega arith
+found-short m s n (r ∷ rs) t =
+    either-short m (eqb (numberOf (r .refusal)) n) (r .name) (nameIn rs n) (its-length m s r (and-l (isRow m s r) (inOrder m (suc s) rs) t))
+    (found-short m (suc s) n rs (and-r (isRow m s r) (inOrder m (suc s) rs) t))
+
 pub name-short : (n : ℕ) → length (nameOf n) ≤ 19
 unfolding nameOf
-name-short n = found-short 19 n names tt
+name-short n = found-short 19 1 n names names-in-order
+
+-- ---- the names as one text, each after a space
+
+abbrev pub joined : List Named → List ℕ
+joined [] = []
+joined (r ∷ rs) = space ∷ (r .name ++ joined rs)
+
+-- the first byte of a text without a space is none, and the others have none
+other : (x : ℕ) (xs : List ℕ) → T (hasNoSpace (x ∷ xs)) → eqb x space ≡ false
+other x xs t = not-true (eqb x space) (is-true (not (eqb x space)) (and-l (not (eqb x space)) (hasNoSpace xs) t))
+
+others : (x : ℕ) (xs : List ℕ) → T (hasNoSpace (x ∷ xs)) → T (hasNoSpace xs)
+others x xs t = and-r (not (eqb x space)) (hasNoSpace xs) t
+
+-- such a text before names is their first word
+first-word : (w : List ℕ) (rs : List Named) → T (hasNoSpace w) → upTo space (w ++ joined rs) ≡ w
+unfolding upTo indexOf indexAfter
+first-word [] [] t = refl
+first-word [] (r ∷ rs) t = refl
+first-word (x ∷ xs) rs t = rw (other x xs t) (ap (λ (l : List ℕ). x ∷ l) (first-word xs rs (others x xs t)))
+
+-- past it the names begin
+past-word : (w l : List ℕ) → T (hasNoSpace w) → past space (w ++ space ∷ l) ≡ l
+unfolding past indexOf indexAfter
+past-word [] l t = refl
+past-word (x ∷ xs) l t = rw (other x xs t) (past-word xs l (others x xs t))
+
+-- or nothing is left
+past-last : (w : List ℕ) → T (hasNoSpace w) → past space (w ++ []) ≡ []
+unfolding past indexOf indexAfter
+past-last [] t = refl
+past-last (x ∷ xs) t = rw (other x xs t) (past-last xs (others x xs t))
+
+no-words : (k : ℕ) → pastWords k [] ≡ []
+unfolding pastWords past
+no-words zero = refl
+no-words (suc k) = no-words k
+
+-- so the words after it are the rows' names, by their numbers
+word-named : (m k s : ℕ) (w : List ℕ) (rs : List Named) → T (hasNoSpace w) → T (inOrder m s rs) → word (suc k) (w ++ joined rs) ≡ nameIn rs (s + k)
+unfolding word pastWords
+word-named m k s w [] t o = rw (past-last w t, no-words k) (first-word [] [] tt)
+word-named m zero s w (r ∷ rs) t o =
+    let row : T (isRow m s r) = and-l (isRow m s r) (inOrder m (suc s) rs) o in
+    rw (past-word w (r .name ++ joined rs) t, eq-eqb (numberOf (r .refusal)) (s + 0) (omega (arith, its-number m s r row)))
+    (first-word (r .name) rs (no-space m s r row))
+word-named m (suc k) s w (r ∷ rs) t o =
+    let row : T (isRow m s r) = and-l (isRow m s r) (inOrder m (suc s) rs) o in
+    let next : suc s + k ≡ s + suc k = omega arith in
+    rw (past-word w (r .name ++ joined rs) t, ne-eqb (numberOf (r .refusal)) (s + suc k) (λ e. omega (arith, its-number m s r row)))
+    (word-named m k (suc s) (r .name) rs (no-space m s r row) (and-r (isRow m s r) (inOrder m (suc s) rs) o) ∙ ap (nameIn rs) next)
+
+-- of all names: the word of a number is its name
+pub name-word : (n : ℕ) → word n (joined names) ≡ nameOf n
+unfolding word pastWords nameOf
+name-word zero = first-word [] names tt
+name-word (suc k) = let n : 1 + k ≡ suc k = omega arith in word-named 19 k 1 [] names tt names-in-order ∙ ap (nameIn names) n

@@ -1,4 +1,4 @@
--- Laws of a line as it is parted into words, and of texts compared. Assumes nothing.
+-- Laws of spaces counted, and of texts compared. Assumes nothing.
 use mathlib.Core.Path.{_≡_, refl, sym, ap, ap₂, _∙_}
 use mathlib.Core.Bool.{true, false, cond, and-false}
 use mathlib.Core.List.{List, [], _∷_}
@@ -7,42 +7,11 @@ use native.Mathlib.Nat.{zero-add}
 use native.Mathlib.Numerals.{add-one}
 use native.Mathlib.Omega.{arith}
 use lib.Dec.{eqb, eqb·suc-suc}
-use lib.ListN.{length, getD, take, drop, drop-of-length-le}
+use lib.ListN.{length, getD, drop, drop-of-length-le}
 use lib.Seq.{drop-cons}
 use borrow.Author.Tests.{eq-eqb, ne-eqb}
-use Rattle.bytes.specs.Bytes.{slice, indexOf}
-use Rattle.numerals.specs.Split.{past}
-use Rattle.numerals.proofs.Reading.{find-ends, find-past}
-use Rattle.request_line.specs.Words.{space, pastWords, word, spaces, words, sameText}
-
--- ---- the words
-
--- the next of the words that are left
-pub words-turn : (k i : ℕ) (l : List ℕ) → i < k → pastWords (k - i) l ≡ pastWords (k - (i + 1)) (past space l)
-unfolding pastWords
-words-turn k i l h = let n : k - i ≡ suc (k - (i + 1)) = omega arith in rw n
-
--- none is left
-pub words-end : (k i : ℕ) (l : List ℕ) → k ≤ i → pastWords (k - i) l ≡ l
-unfolding pastWords
-words-end k i l h = let n : k - i ≡ 0 = omega arith in rw n
-
--- the first space from a place on, or the line's end
-module _ (l : List ℕ) (from to : ℕ) (e : to ≡ from + indexOf space (slice from (length l) l)) where
-  -- what stands after it
-  pub after-space : drop (to + 1) l ≡ past space (drop from l)
-  after-space = rw (e, add-one) (find-past space from l)
-
-  -- at the end nothing does
-  pub after-end : length l ≤ to → drop to l ≡ past space (drop from l)
-  after-end h = drop-of-length-le l h ∙ sym (drop-of-length-le l {i = to + 1} (omega arith)) ∙ after-space
-
-  -- what stands before it is a word
-  pub part-word : (k : ℕ) → drop from l ≡ pastWords k l → take (to - from) (drop from l) ≡ word k l
-  unfolding word
-  part-word k d =
-      let n : to - from ≡ indexOf space (slice from (length l) l) = omega arith in
-      rw (n, ← d) (find-ends space from l)
+use Rattle.parted.specs.Parts.{space}
+use Rattle.request_line.specs.Words.{spaces, words, sameText}
 
 -- ---- a turn of the loop that counts spaces
 

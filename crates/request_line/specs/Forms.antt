@@ -10,11 +10,12 @@ use Rattle.numerals.specs.declared.Number.{Number}
 use Rattle.numerals.specs.declared.Number.the-variants.{Is, Unread}
 use Rattle.numerals.specs.Digits.{number}
 use Rattle.numerals.specs.Decimal.{floatBits}
+use Rattle.parted.specs.Parts.{word}
 use Rattle.request_line.specs.declared.Asked.{Asked}
 use Rattle.request_line.specs.declared.Asked.the-variants as asked
 use Rattle.request_line.specs.declared.Line.{Line}
 use Rattle.request_line.specs.declared.Line.the-variants as line
-use Rattle.request_line.specs.Words.{word, words, sameText}
+use Rattle.request_line.specs.Words.{words, sameText}
 use Rattle.request_line.specs.Ends.{textOf, isLine}
 
 -- the calls' names

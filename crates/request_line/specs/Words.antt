@@ -1,21 +1,9 @@
--- RULES, 'Lines of pull': a line's words, parted at its spaces. Assumes nothing.
-use Prim.Native.Nat.{ℕ, zero, suc, _+_}
+-- RULES, 'Lines of pull': how many words a line has, and whether a word is this text. Assumes nothing.
+use Prim.Native.Nat.{ℕ, _+_}
 use mathlib.Core.Bool.{Bool, true, false, cond, _&&_}
 use mathlib.Core.List.{List, [], _∷_}
 use lib.Dec.{eqb}
-use Rattle.numerals.specs.Split.{upTo, past}
-
-abbrev pub space : ℕ
-space = 32
-
--- what follows the first k words
-unfoldable pub pastWords : ℕ → List ℕ → List ℕ
-pastWords zero l = l
-pastWords (suc k) l = pastWords k (past space l)
-
--- the word k, the first being 0; nothing past the last
-unfoldable pub word : ℕ → List ℕ → List ℕ
-word k l = upTo space (pastWords k l)
+use Rattle.parted.specs.Parts.{space}
 
 -- the number of spaces
 unfoldable pub spaces : List ℕ → ℕ

@@ -4,13 +4,15 @@ use kinds::Request;
 use numerals::Number;
 use numerals::float_bits;
 use numerals::whole_number;
+use parted::SPACE;
+use parted::start_of;
 ghost use mathlib.Core.Path.{_≡_};
-ghost use Prim.Native.Nat.{_≤_, _<_};
+ghost use Prim.Native.Nat.{_<_};
 ghost use lib.Dec.{eqb};
-ghost use lib.ListN.{length, drop};
 ghost use Rattle.numerals.specs.Digits.{number};
 ghost use Rattle.numerals.specs.Decimal.{floatBits};
-ghost use Rattle.request_line.specs.Words.{pastWords, sameText, word};
+ghost use Rattle.parted.specs.Parts.{word};
+ghost use Rattle.request_line.specs.Words.{sameText};
 ghost use Rattle.request_line.specs.Words as text;
 ghost use Rattle.request_line.specs.Forms.{anyStrikeLine, callLine, deliverLine, geometricAsked, isForm, poissonAsked, readLine, readText, redrawLine, requestAsked, strikeFromLine, strikeLine, trayAsked};
 
@@ -33,29 +35,11 @@ enum Asked {
 // The most bytes that a line's text may have.
 const MOST_BYTES: usize = 255;
 
-const SPACE: u8 = b' ';
-
 const NEWLINE: u8 = b'\n';
 
 const CARRIAGE_RETURN: u8 = b'\r';
 
 // ---- words
-
-// Where the bytes after the first k words begin.
-fn start_of(line: &[u8], k: usize) -> usize
-    ensures { λ r. ⌜ (r ≤ length (now (line .entry))) × (drop r (now (line .entry)) ≡ pastWords k (now (line .entry))) ⌝ }
-{
-    let mut at: usize = 0;
-    let mut i: usize = 0;
-    while i < k {
-        at = find(line, at, line.len(), SPACE);
-        if at < line.len() {
-            at += 1;
-        }
-        i += 1;
-    }
-    at
-}
 
 // The number of spaces.
 fn spaces(line: &[u8]) -> u64

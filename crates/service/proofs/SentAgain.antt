@@ -1,7 +1,7 @@
 -- A strike from a number of entries may be sent again, proved: where it struck, the entries that it leaves are those that it finds, and
 -- elsewhere the book is as it was. Assumes nothing.
 use mathlib.Core.Path.{_≡_, refl, sym, ap, subst, _∙_}
-use mathlib.Core.Bool.{Bool, true, false, cond, or-true}
+use mathlib.Core.Bool.{Bool, true, false, or-true}
 use mathlib.Core.List.{List, [], _∷_, _++_}
 use Prim.Native.Nat.{ℕ, _-_, _≤_}
 use native.Mathlib.Omega.{arith}
@@ -14,16 +14,13 @@ use Rattle.words.specs.Refusals.{Condition, _on_, NoneHolds}
 use Rattle.words.proofs.Exactly.{none-before, drawn-exactly}
 use Rattle.answer_lines.specs.Answers.{strikeLine}
 use Rattle.layout.proofs.Decoding.{by-test}
-use Rattle.opening.specs.Calls.{Call, call, booked, limits}
+use Rattle.opening.specs.Calls.{booked, limits}
 use Rattle.opening.proofs.Opening.{past-limits}
-use Rattle.book.specs.Strike.{strikeRefusals, leftBy, strikeIn, strike}
+use Rattle.book.specs.Strike.{strikeRefusals, strikeIn, strike}
 use Rattle.book.proofs.LeftOver.{strike-opens}
-use Rattle.request_line.specs.declared.Line.{Line}
-use Rattle.request_line.specs.declared.Line.the-variants.{StrikeFrom}
-use Rattle.request_line.specs.Forms.{readLine}
-use Rattle.service.specs.StrikeFrom.{Striking, left, strikeFromRefusals, byEntries, strikeFromLine, strikeFrom}
+use Rattle.service.specs.StrikeFrom.{left, strikeFromRefusals, byEntries, strikeFromLine, strikeFrom}
 use Rattle.service.specs.Service.{Service, isStruck, striking, struckFrom, serve}
-use Rattle.service.specs.SentAgain.{AreBytes, SameAgain, SentAgain}
+use Rattle.service.specs.SentAgain.{AreBytes, SentAgain}
 use Rattle.service.proofs.StrikingFrom.{strike-unchanged, zero-keeps, from-standing}
 
 -- asked again, it says what s says and leaves the book that s leaves

@@ -1,6 +1,6 @@
 -- A strike from a number of entries, way by way. Assumes nothing.
 use mathlib.Core.Path.{_≡_, refl, sym, ap, ap₂, subst, _∙_}
-use mathlib.Core.Bool.{Bool, true, false, cond, _&&_, and-false, or-true}
+use mathlib.Core.Bool.{Bool, true, false, cond, _&&_, and-false}
 use mathlib.Core.List.{List, [], _∷_, _++_}
 use mathlib.Core.Logic.{_⊎_, inl, inr}
 use Prim.Native.Nat.{ℕ, _-_, _≤_, _<_}
@@ -28,7 +28,7 @@ use Rattle.book.specs.Strike.{strikeRefusals, leftBy, afterStrike, strikeIn, st
 use Rattle.book.proofs.Striking.{strike-stopped, strike-many}
 use Rattle.writing.specs.Writing.{Writes}
 use Rattle.answer_lines.specs.Answers.{strikeLine, keptLine, refusalLine}
-use Rattle.service.specs.StrikeFrom.{Striking, left, kept, strikeFromRefusals, byEntries, afterStrikeFrom, strikeFromLine, strikeFrom}
+use Rattle.service.specs.StrikeFrom.{Striking, left, kept, strikeFromRefusals, byEntries, strikeFromLine, strikeFrom}
 use Rattle.service.specs.Service.{Service, serving, isStruck, striking, strikingFrom, struckFrom, Meets}
 
 -- ---- a strike that changes nothing

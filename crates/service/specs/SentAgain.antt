@@ -6,7 +6,7 @@ use lib.ListN.{length, getD}
 use Rattle.opening.specs.Calls.{booked}
 use Rattle.request_line.specs.declared.Line.the-variants.{Strike, StrikeFrom}
 use Rattle.request_line.specs.Forms.{readLine}
-use Rattle.service.specs.Service.{Service, answered, serve}
+use Rattle.service.specs.Service.{answered, serve}
 
 -- each number is a byte, as those of a lent book are
 abbrev pub AreBytes : List ℕ → Type 0

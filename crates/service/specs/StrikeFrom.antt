@@ -6,7 +6,6 @@ use lib.Dec.{eqb, ltb}
 use lib.ListN.{length}
 use Rattle.words.specs.Outcome.{Outcome, drawn, refused}
 use Rattle.words.specs.Refusals.{Condition, _on_, given}
-use Rattle.writing.specs.Digits.{decimal}
 use Rattle.opening.specs.Calls.{Call, call, booked, limits}
 use Rattle.book.specs.Strike.{strike}
 use Rattle.answer_lines.specs.Answers.{strikeLine, keptLine, refusalLine}

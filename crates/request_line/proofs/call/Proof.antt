@@ -4,7 +4,8 @@ use mathlib.Core.Path.{_≡_, sym, _∙_}
 use mathlib.Core.Bool.{false}
 use mathlib.Core.List.{List}
 use Prim.Native.Nat.{ℕ}
-use Rattle.request_line.specs.Words.{word, sameText}
+use Rattle.parted.specs.Parts.{word}
+use Rattle.request_line.specs.Words.{sameText}
 use Rattle.request_line.specs.Forms.{deliverText, strikeText, callLine}
 use Rattle.request_line.proofs.call.Statement.{statement}
 use Rattle.request_line.proofs.call.Tie as tie

@@ -7,7 +7,7 @@ use native.Mathlib.Omega.{arith}
 use Rattle.numerals.specs.declared.Number.the-variants.{Is}
 use Rattle.numerals.specs.Digits.{number}
 use Rattle.numerals.proofs.Reading.{number-within}
-use Rattle.request_line.specs.Words.{word}
+use Rattle.parted.specs.Parts.{word}
 use Rattle.request_line.specs.Forms.{deliverLine}
 use Rattle.request_line.proofs.delivery.Statement.{statement}
 use Rattle.request_line.proofs.delivery.Tie as tie

@@ -4,7 +4,7 @@ use mathlib.Core.Path.{ap, _∙_}
 use mathlib.Core.List.{List}
 use Prim.Native.Nat.{ℕ}
 use Rattle.request_line.specs.Words.{sameText}
-use Rattle.request_line.proofs.Parting.{part-word}
+use Rattle.parted.proofs.Parting.{part-word}
 use Rattle.request_line.proofs.is_word.Statement.{statement}
 use Rattle.request_line.proofs.is_word.Tie as tie
 

@@ -2,7 +2,7 @@
 use borrow.Author.Needs.{needs}
 use mathlib.Core.Path.{ap, _∙_}
 use Rattle.numerals.specs.Digits.{number}
-use Rattle.request_line.proofs.Parting.{part-word}
+use Rattle.parted.proofs.Parting.{part-word}
 use Rattle.request_line.proofs.number_at.Statement.{statement}
 use Rattle.request_line.proofs.number_at.Tie as tie
 

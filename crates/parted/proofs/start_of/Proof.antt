@@ -1,4 +1,4 @@
--- `request_line::start_of` meets its contract: the words that are left from here lead to the same place. Assumes nothing.
+-- `parted::start_of` meets its contract: the words that are left from here lead to the same place. Assumes nothing.
 use borrow.Author.Needs.{needs}
 use mathlib.Core.Path.{_≡_, sym, ap, _∙_}
 use mathlib.Core.List.{List}
@@ -7,10 +7,10 @@ use Prim.Native.Nat.{ℕ, _+_, _-_, _≤_}
 use native.Mathlib.Nat.{sub-zero}
 use lib.ListN.{length, drop}
 use Rattle.numerals.specs.Split.{past}
-use Rattle.request_line.specs.Words.{space, pastWords}
-use Rattle.request_line.proofs.Parting.{words-turn, words-end, after-space, after-end}
-use Rattle.request_line.proofs.start_of.Statement.{statement}
-use Rattle.request_line.proofs.start_of.Tie as tie
+use Rattle.parted.specs.Parts.{space, pastWords}
+use Rattle.parted.proofs.Parting.{words-turn, words-end, after-space, after-end}
+use Rattle.parted.proofs.start_of.Statement.{statement}
+use Rattle.parted.proofs.start_of.Tie as tie
 
 abbrev Inv-loop : tie.InvT-loop
 Inv-loop line k at₀ i₀ at i = (at ≤ length line) × (i ≤ k) × (pastWords (k - i) (drop at line) ≡ pastWords k line)
@@ -24,7 +24,7 @@ module _ (c : tie.After-find Inv-loop μ-loop) where
   at-loop = c .before .before
 
   abbrev line : List ℕ
-  line = at-loop .before .before .args .line .now
+  line = at-loop .before .before .args .text .now
 
   abbrev k : ℕ
   k = at-loop .before .before .args .k
