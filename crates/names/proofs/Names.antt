@@ -1,29 +1,24 @@
 -- Laws of the table of names: what is computed of it, and that the word of a number in the text of all names is that number's name. Assumes
 -- nothing.
 use mathlib.Core.Path.{_≡_, refl, ap, _∙_}
-use mathlib.Core.Bool.{Bool, true, false, cond, not, _&&_}
-use mathlib.Core.List.{List, [], _∷_, _++_}
+use mathlib.Core.Bool.{Bool, true, false, cond, _&&_}
+use mathlib.Core.List.{List, [], _∷_, _++_, append-nil}
 use Prim.Native.Nat.{ℕ, zero, suc, _+_, _≤_}
 use native.Mathlib.Omega.{arith}
 use lib.Dec.{T, eqb, leb, leb→le, eqb→eq}
 use lib.Ieee.Fits.{and-l, and-r}
-use denote.Floats.{is-true}
 use lib.ListN.{length}
-use borrow.Author.Tests.{eq-eqb, ne-eqb, not-true}
-use Rattle.bytes.specs.Bytes.{indexAfter, indexOf}
+use borrow.Author.Tests.{eq-eqb, ne-eqb}
 use Rattle.numerals.specs.Split.{upTo, past}
 use Rattle.parted.specs.Parts.{space, pastWords, word}
+use Rattle.parted.proofs.Lacking.{lacks, up-to-first, up-to-none, past-first, past-none}
 use Rattle.words.specs.Paper.{numberOf}
 use Rattle.names.specs.Names.{Named, names, nameIn, nameOf}
 
 -- ---- the test: rows from the number s on, one by one, each with a name of at most m letters and no space
 
-abbrev hasNoSpace : List ℕ → Bool
-hasNoSpace [] = true
-hasNoSpace (x ∷ xs) = not (eqb x space) && hasNoSpace xs
-
 abbrev isRow : ℕ → ℕ → Named → Bool
-isRow m s r = eqb (numberOf (r .refusal)) s && (hasNoSpace (r .name) && leb (length (r .name)) m)
+isRow m s r = eqb (numberOf (r .refusal)) s && (lacks space (r .name) && leb (length (r .name)) m)
 
 abbrev inOrder : ℕ → ℕ → List Named → Bool
 inOrder m s [] = true
@@ -37,14 +32,14 @@ module _ (m s : ℕ) (r : Named) (t : T (isRow m s r)) where
   its-number : numberOf (r .refusal) ≡ s
   its-number = eqb→eq (numberOf (r .refusal)) s (and-l (eqb (numberOf (r .refusal)) s) _ t)
 
-  its-letters : T (hasNoSpace (r .name) && leb (length (r .name)) m)
+  its-letters : T (lacks space (r .name) && leb (length (r .name)) m)
   its-letters = and-r (eqb (numberOf (r .refusal)) s) _ t
 
-  no-space : T (hasNoSpace (r .name))
-  no-space = and-l (hasNoSpace (r .name)) (leb (length (r .name)) m) its-letters
+  no-space : T (lacks space (r .name))
+  no-space = and-l (lacks space (r .name)) (leb (length (r .name)) m) its-letters
 
   its-length : length (r .name) ≤ m
-  its-length = leb→le (length (r .name)) m (and-r (hasNoSpace (r .name)) (leb (length (r .name)) m) its-letters)
+  its-length = leb→le (length (r .name)) m (and-r (lacks space (r .name)) (leb (length (r .name)) m) its-letters)
 
 -- ---- how long a name is
 
@@ -68,31 +63,13 @@ abbrev pub joined : List Named → List ℕ
 joined [] = []
 joined (r ∷ rs) = space ∷ (r .name ++ joined rs)
 
--- the first byte of a text without a space is none, and the others have none
-other : (x : ℕ) (xs : List ℕ) → T (hasNoSpace (x ∷ xs)) → eqb x space ≡ false
-other x xs t = not-true (eqb x space) (is-true (not (eqb x space)) (and-l (not (eqb x space)) (hasNoSpace xs) t))
+-- a text without a space before names is their first word; past it the names begin, or nothing is left
+first-word : (w : List ℕ) (rs : List Named) → T (lacks space w) → upTo space (w ++ joined rs) ≡ w
+first-word w [] t = ap (upTo space) (append-nil w) ∙ up-to-none space w t
+first-word w (r ∷ rs) t = up-to-first space w (r .name ++ joined rs) t
 
-others : (x : ℕ) (xs : List ℕ) → T (hasNoSpace (x ∷ xs)) → T (hasNoSpace xs)
-others x xs t = and-r (not (eqb x space)) (hasNoSpace xs) t
-
--- such a text before names is their first word
-first-word : (w : List ℕ) (rs : List Named) → T (hasNoSpace w) → upTo space (w ++ joined rs) ≡ w
-unfolding upTo indexOf indexAfter
-first-word [] [] t = refl
-first-word [] (r ∷ rs) t = refl
-first-word (x ∷ xs) rs t = rw (other x xs t) (ap (λ (l : List ℕ). x ∷ l) (first-word xs rs (others x xs t)))
-
--- past it the names begin
-past-word : (w l : List ℕ) → T (hasNoSpace w) → past space (w ++ space ∷ l) ≡ l
-unfolding past indexOf indexAfter
-past-word [] l t = refl
-past-word (x ∷ xs) l t = rw (other x xs t) (past-word xs l (others x xs t))
-
--- or nothing is left
-past-last : (w : List ℕ) → T (hasNoSpace w) → past space (w ++ []) ≡ []
-unfolding past indexOf indexAfter
-past-last [] t = refl
-past-last (x ∷ xs) t = rw (other x xs t) (past-last xs (others x xs t))
+past-last : (w : List ℕ) → T (lacks space w) → past space (w ++ []) ≡ []
+past-last w t = ap (past space) (append-nil w) ∙ past-none space w t
 
 no-words : (k : ℕ) → pastWords k [] ≡ []
 unfolding pastWords past
@@ -100,17 +77,17 @@ no-words zero = refl
 no-words (suc k) = no-words k
 
 -- so the words after it are the rows' names, by their numbers
-word-named : (m k s : ℕ) (w : List ℕ) (rs : List Named) → T (hasNoSpace w) → T (inOrder m s rs) → word (suc k) (w ++ joined rs) ≡ nameIn rs (s + k)
+word-named : (m k s : ℕ) (w : List ℕ) (rs : List Named) → T (lacks space w) → T (inOrder m s rs) → word (suc k) (w ++ joined rs) ≡ nameIn rs (s + k)
 unfolding word pastWords
 word-named m k s w [] t o = rw (past-last w t, no-words k) (first-word [] [] tt)
 word-named m zero s w (r ∷ rs) t o =
     let row : T (isRow m s r) = and-l (isRow m s r) (inOrder m (suc s) rs) o in
-    rw (past-word w (r .name ++ joined rs) t, eq-eqb (numberOf (r .refusal)) (s + 0) (omega (arith, its-number m s r row)))
+    rw (past-first space w (r .name ++ joined rs) t, eq-eqb (numberOf (r .refusal)) (s + 0) (omega (arith, its-number m s r row)))
     (first-word (r .name) rs (no-space m s r row))
 word-named m (suc k) s w (r ∷ rs) t o =
     let row : T (isRow m s r) = and-l (isRow m s r) (inOrder m (suc s) rs) o in
     let next : suc s + k ≡ s + suc k = omega arith in
-    rw (past-word w (r .name ++ joined rs) t, ne-eqb (numberOf (r .refusal)) (s + suc k) (λ e. omega (arith, its-number m s r row)))
+    rw (past-first space w (r .name ++ joined rs) t, ne-eqb (numberOf (r .refusal)) (s + suc k) (λ e. omega (arith, its-number m s r row)))
     (word-named m k (suc s) (r .name) rs (no-space m s r row) (and-r (isRow m s r) (inOrder m (suc s) rs) o) ∙ ap (nameIn rs) next)
 
 -- of all names: the word of a number is its name
