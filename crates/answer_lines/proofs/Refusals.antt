@@ -15,7 +15,7 @@ use Rattle.answer_lines.specs.Answers.{refusalLine}
 use Rattle.answer_lines.specs.Inner.{refusedBy}
 
 -- a number's digits and the space after them
-pub number-short : (n : ℕ) → n < 2 ^ 32 → length (decimal n ++ (32 ∷ [])) ≤ 11
+number-short : (n : ℕ) → n < 2 ^ 32 → length (decimal n ++ (32 ∷ [])) ≤ 11
 number-short n h = omega (arith, length-decimal n 10 (omega arith) (omega arith), length-append (decimal n) (32 ∷ []))
 
 -- its first words leave room for a serial

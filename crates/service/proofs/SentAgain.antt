@@ -1,27 +1,23 @@
 -- A strike from a number of entries may be sent again, proved: where it struck, the entries that it leaves are those that it finds, and
 -- elsewhere the book is as it was. Assumes nothing.
 use mathlib.Core.Path.{_≡_, refl, sym, ap, subst, _∙_}
-use mathlib.Core.Bool.{Bool, true, false, or-true}
-use mathlib.Core.List.{List, [], _∷_, _++_}
-use Prim.Native.Nat.{ℕ, _-_, _≤_}
+use mathlib.Core.Bool.{Bool, true, false}
+use mathlib.Core.List.{List}
+use Prim.Native.Nat.{ℕ, _-_}
 use native.Mathlib.Omega.{arith}
-use lib.Dec.{eqb, ltb}
+use lib.Dec.{eqb}
 use lib.ListN.{length}
 use lib.Seq.{length-take-le}
-use borrow.Author.Tests.{eq-eqb, ne-eqb, eqb-true, eqb-false, le-ltb, ltb-false}
+use borrow.Author.Tests.{ne-eqb, eqb-true, eqb-false}
 use Rattle.words.specs.Outcome.{Outcome, drawn, refused}
-use Rattle.words.specs.Refusals.{Condition, _on_, NoneHolds}
-use Rattle.words.proofs.Exactly.{none-before, drawn-exactly}
 use Rattle.answer_lines.specs.Answers.{strikeLine}
-use Rattle.layout.proofs.Decoding.{by-test}
-use Rattle.opening.specs.Calls.{booked, limits}
-use Rattle.opening.proofs.Opening.{past-limits}
-use Rattle.book.specs.Strike.{strikeRefusals, strikeIn, strike}
+use Rattle.opening.specs.Calls.{Call, call, booked}
+use Rattle.book.specs.Strike.{strikeIn, strike}
 use Rattle.book.proofs.LeftOver.{strike-opens}
-use Rattle.service.specs.StrikeFrom.{left, strikeFromRefusals, byEntries, strikeFromLine, strikeFrom}
+use Rattle.service.specs.StrikeFrom.{Striking, left, strikeFromLine, strikeFrom}
 use Rattle.service.specs.Service.{Service, isStruck, striking, struckFrom, serve}
 use Rattle.service.specs.SentAgain.{AreBytes, SentAgain}
-use Rattle.service.proofs.StrikingFrom.{strike-unchanged, zero-keeps, from-standing}
+use Rattle.service.proofs.StrikingFrom.{strike-unchanged, from-standing, strike-told, from-left}
 
 -- asked again, it says what s says and leaves the book that s leaves
 abbrev Same : List ℕ → ℕ → ℕ → Service → Type 0
@@ -31,22 +27,6 @@ module _ (ws b : List ℕ) (j m : ℕ) where
   -- a book as it was is asked the same again
   unmoved-same : struckFrom ws b j m .book ≡ b → Same ws j m (struckFrom ws b j m)
   unmoved-same e = rw e (refl, e)
-
-  -- where m - j entries stand, they are left
-  module _ (h : NoneHolds (limits ws b)) (l : j ≤ m) (e : length (booked ws b) ≡ m - j) where
-    left-said : strikeFrom ws b j m .outcome ≡ drawn (left (m - j)) 0
-    unfolding strikeFrom strikeFromRefusals
-    left-said =
-        past-limits ws b (16 on ltb m j ∷ []) (drawn (byEntries (length (booked ws b)) j m) 0) h
-        ∙ rw (le-ltb m j l, e, eq-eqb (m - j) (m - j) refl, or-true)
-
-    -- and where they are m, nothing is struck
-    left-book : struckFrom ws b j m .book ≡ b
-    unfolding strikeFrom
-    left-book =
-        by-test (λ (x : List ℕ). x ≡ b) (eqb (length (booked ws b)) m)
-        (λ t. let z : j ≡ 0 = omega (arith, eqb-true (length (booked ws b)) m t) in rw z (zero-keeps ws b))
-        (λ _. refl)
 
 module _ (ws b : List ℕ) (j m : ℕ) where
   -- where m stand it is a strike, accepted or not
@@ -64,18 +44,17 @@ module _ (ws b : List ℕ) (j m : ℕ) where
 
     -- accepted: m - j are left
     struck-same : (n u : ℕ) → strike ws b j .outcome ≡ drawn n u → Same ws j m struck
-    unfolding strike strikeIn strikeRefusals
     struck-same n u q =
-        let many : List Condition = 16 on ltb (length (booked ws b)) j ∷ [] in
-        let x = drawn-exactly (limits ws b ++ many) (drawn (length (booked ws b) - j) 0) n u .0 q in
-        let h : NoneHolds (limits ws b) = none-before (limits ws b) many (x .0) in
-        let le : j ≤ length (booked ws b) = ltb-false (length (booked ws b)) j (x .0 .1 .1 .1 .0) in
-        let again = strike-opens ws b j by h le in
+        let x = strike-told ws b j n u q in
+        let again = strike-opens ws b j by (x .0) (x .1) in
         let few : length (booked ws (strike ws b j .book)) ≡ m - j =
         ap length (again .1) ∙ length-take-le (length (booked ws b) - j) (booked ws b) (omega arith) ∙ ap (λ (k : ℕ). k - j) e in
-        let left : strike ws b j .outcome ≡ drawn (m - j) 0 = q ∙ sym (x .1) ∙ ap (λ (k : ℕ). drawn (k - j) 0) e in (
-          ap strikeFromLine (left-said ws (strike ws b j .book) j m (again .0) (omega arith) few) ∙ ap strikeLine (sym left),
-          left-book ws (strike ws b j .book) j m (again .0) (omega arith) few,
+        let told : strike ws b j .outcome ≡ drawn (m - j) 0 = q ∙ sym (x .2) ∙ ap (λ (k : ℕ). drawn (k - j) 0) e in
+        let next : strikeFrom ws (strike ws b j .book) j m ≡ call (drawn (left (m - j)) 0) (strike ws b j .book) =
+        from-left ws (strike ws b j .book) j m (again .0) (omega arith) few
+        ∙ ap (λ (k : ℕ). call (drawn (left k) 0) (strike ws b j .book)) few in (
+          ap (λ (c : Call Striking). strikeFromLine (c .outcome)) next ∙ ap strikeLine (sym told),
+          ap (λ (c : Call Striking). c .book) next,
         )
 
     by-answer : (o : Outcome ℕ) → strike ws b j .outcome ≡ o → Same ws j m (struckFrom ws b j m)

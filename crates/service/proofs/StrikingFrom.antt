@@ -1,6 +1,6 @@
 -- A strike from a number of entries, way by way. Assumes nothing.
 use mathlib.Core.Path.{_≡_, refl, sym, ap, ap₂, subst, _∙_}
-use mathlib.Core.Bool.{Bool, true, false, cond, _&&_, and-false}
+use mathlib.Core.Bool.{Bool, true, false, cond, _&&_, and-false, or-true}
 use mathlib.Core.List.{List, [], _∷_, _++_}
 use mathlib.Core.Logic.{_⊎_, inl, inr}
 use Prim.Native.Nat.{ℕ, _-_, _≤_, _<_}
@@ -8,7 +8,7 @@ use native.Mathlib.Omega.{arith}
 use lib.Dec.{eqb, ltb}
 use lib.ListN.{length, drop}
 use lib.Seq.{take-all}
-use borrow.Author.Tests.{eq-eqb, ne-eqb, eqb-true, lt-ltb, le-ltb, ltb-true, not-false}
+use borrow.Author.Tests.{eq-eqb, ne-eqb, eqb-true, lt-ltb, le-ltb, ltb-true, ltb-false, not-false}
 use Rattle.words.specs.Outcome.{Outcome, drawn, refused}
 use Rattle.words.specs.declared.Refusal.{Refusal}
 use Rattle.words.specs.Paper.{numberOf}
@@ -78,19 +78,26 @@ module _ (ws b : List ℕ) where
   abbrev standing : ℕ
   standing = length (booked ws b)
 
+  -- an accepted strike: no limit holds, and as many stand
+  pub strike-told : (j n u : ℕ) → strike ws b j .outcome ≡ drawn n u → NoneHolds (limits ws b) × (j ≤ standing) × (drawn (standing - j) 0 ≡ drawn n u)
+  unfolding strike strikeIn strikeRefusals
+  strike-told j n u e =
+      let many : List Condition = 16 on ltb standing j ∷ [] in
+      let x = drawn-exactly (limits ws b ++ many) (drawn (standing - j) 0) n u .0 e in
+      (none-before (limits ws b) many (x .0), ltb-false standing j (x .0 .1 .1 .1 .0), x .1)
+
+  -- of 0 entries, it tells how many stand
+  zero-told : (n : ℕ) → strike ws b 0 .outcome ≡ drawn n 0 → NoneHolds (limits ws b) × (standing ≡ n)
+  zero-told n e =
+      let x = strike-told 0 n 0 e in
+      let d : standing - 0 ≡ n = cc (x .2) in
+      (x .0, omega arith)
+
   abbrev noneMore : List Condition
   noneMore = 16 on ltb standing 0 ∷ []
 
-  -- the entries that stand, where it is accepted
-  pub zero-told : (n : ℕ) → strike ws b 0 .outcome ≡ drawn n 0 → NoneHolds (limits ws b) × (standing ≡ n)
-  unfolding strike strikeIn strikeRefusals
-  zero-told n e =
-      let x = drawn-exactly (limits ws b ++ noneMore) (drawn (standing - 0) 0) n 0 .0 e in
-      let d : standing - 0 ≡ n = cc (x .1) in
-      (none-before (limits ws b) noneMore (x .0), omega arith)
-
   -- else a limit of tape or book
-  pub zero-refused : (n : ℕ) → strike ws b 0 .outcome ≡ refused n → First n (limits ws b)
+  zero-refused : (n : ℕ) → strike ws b 0 .outcome ≡ refused n → First n (limits ws b)
   unfolding strike strikeIn strikeRefusals
   zero-refused n e =
       go (first-split (limits ws b) noneMore n
@@ -116,30 +123,31 @@ module _ (ws b : List ℕ) where
         ap₂ call e (by-test (λ (x : List ℕ). x ≡ b) (eqb standing m) (λ t. f (eqb-true standing m t)) (λ _. refl))
 
     -- a limit stops it, as it does a strike
-    pub from-stopped : (n : ℕ) → First n (limits ws b) → strikeFrom ws b j m ≡ call (refused n) b
+    from-stopped : (n : ℕ) → First n (limits ws b) → strikeFrom ws b j m ≡ call (refused n) b
     unfolding strikeFrom strikeFromRefusals
     from-stopped n f = unmoved (refused n) (stopped ws b own came n f) (λ _. ap (λ (x : Call ℕ). x .book) (sym (strike-stopped ws b j n f)))
 
     -- past the limits
     module _ (h : NoneHolds (limits ws b)) where
-      pub from-many : m < j → strikeFrom ws b j m ≡ call (refused 16) b
+      from-many : m < j → strikeFrom ws b j m ≡ call (refused 16) b
       unfolding strikeFrom strikeFromRefusals
       from-many l =
           unmoved (refused 16) (past-limits ws b own came h ∙ rw (lt-ltb m j l))
           (λ e. ap (λ (x : Call ℕ). x .book) (sym (strike-many ws b j h (omega arith))))
 
-      -- another number of entries than m
-      module _ (l : j ≤ m) (other : standing ≡ m → ⊥) where
-        pub from-before : standing ≡ m - j → strikeFrom ws b j m ≡ call (drawn (left standing) 0) b
+      module _ (l : j ≤ m) where
+        -- where m - j stand they are left, struck before, or none of them (j is 0)
+        pub from-left : standing ≡ m - j → strikeFrom ws b j m ≡ call (drawn (left standing) 0) b
         unfolding strikeFrom strikeFromRefusals
-        from-before e =
+        from-left e =
             unmoved (drawn (left standing) 0)
-            (past-limits ws b own came h ∙ rw (le-ltb m j l, ne-eqb standing m other, eq-eqb standing (m - j) e, e))
-            (λ q. absurd (other q))
+            (past-limits ws b own came h ∙ rw (le-ltb m j l, e, eq-eqb (m - j) (m - j) refl, or-true))
+            (λ q. let z : j ≡ 0 = omega arith in rw z (zero-keeps ws b))
 
-        pub from-other : (standing ≡ m - j → ⊥) → strikeFrom ws b j m ≡ call (drawn (kept standing) 0) b
+        -- another number of entries than both
+        from-other : (standing ≡ m → ⊥) → (standing ≡ m - j → ⊥) → strikeFrom ws b j m ≡ call (drawn (kept standing) 0) b
         unfolding strikeFrom strikeFromRefusals
-        from-other e =
+        from-other other e =
             unmoved (drawn (kept standing) 0)
             (past-limits ws b own came h ∙ rw (le-ltb m j l, ne-eqb standing m other, ne-eqb standing (m - j) e))
             (λ q. absurd (other q))
@@ -178,7 +186,7 @@ module _ (ws b out after : List ℕ) (n j m : ℕ) where
 
       pub before-met : s ≡ m - j → Writes out 0 (strikeLine (drawn s 0)) after n → Meets out (struckFrom ws b j m) n false b after
       before-met e w =
-          unmoved-met (drawn (left s) 0) (rw stand at (from-before ws b j m open-for l elsewhere (stand ∙ e)))
+          unmoved-met (drawn (left s) 0) (rw stand at (from-left ws b j m open-for l (stand ∙ e)))
           (ap (λ (x : Bool). x && isStruck j (drawn (left s) 0)) (ne-eqb _ m elsewhere)) w
 
       pub other-met : (s ≡ m - j → ⊥) → Writes out 0 (keptLine s) after n → Meets out (struckFrom ws b j m) n false b after

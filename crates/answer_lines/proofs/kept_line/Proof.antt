@@ -1,4 +1,4 @@
--- `answer_lines::kept_line` meets its contract: the text and the line's number are the line. Assumes nothing.
+-- `answer_lines::kept_line` meets its contract: the text and the number of entries are the line. Assumes nothing.
 use borrow.Author.Needs.{needs}
 use Rattle.lines.specs.Lines.{line}
 use Rattle.answer_lines.specs.Answers.{keptLine}
