@@ -13,13 +13,13 @@ pub whole_exact : (n : ℕ) → n ≤ 2 ^ 53 → HasValue (as_float n) false n 1
 unfolding of_int
 whole_exact n h = round_whole binary64 false n h
 
-module _ (minTop minBottom maxTop maxBottom : ℕ) where
+module _ (min_top min_bottom max_top max_bottom : ℕ) where
   pub factors_more : (last i : ℕ) (p : Float) → i < last
-      → factors minTop minBottom maxTop maxBottom (last - i) i p
-      ≡ factors minTop minBottom maxTop maxBottom (last - (i + 1)) (i + 1) (at_factor minTop minBottom maxTop maxBottom (i + 1) p)
+      → factors min_top min_bottom max_top max_bottom (last - i) i p
+      ≡ factors min_top min_bottom max_top max_bottom (last - (i + 1)) (i + 1) (at_factor min_top min_bottom max_top max_bottom (i + 1) p)
   unfolding factors
   factors_more last i p h = let e : last - i ≡ suc (last - (i + 1)) = omega arith in rw e
 
-  pub factors_end : (last i : ℕ) (p : Float) → last ≤ i → factors minTop minBottom maxTop maxBottom (last - i) i p ≡ p
+  pub factors_end : (last i : ℕ) (p : Float) → last ≤ i → factors min_top min_bottom max_top max_bottom (last - i) i p ≡ p
   unfolding factors
   factors_end last i p h = let e : last - i ≡ 0 = omega arith in rw e

@@ -19,20 +19,20 @@ over_in bottom i p = cond (leb i bottom) (div binary64 p (as_float i)) p
 -- the four factorials that i may be a factor of, in this order: the lesser above the line, the lesser below, the greater above, the
 -- greater below; nothing is cancelled
 unfoldable pub at_factor : ℕ → ℕ → ℕ → ℕ → ℕ → Float → Float
-at_factor minTop minBottom maxTop maxBottom i p = over_in maxBottom i (times_in maxTop i (over_in minBottom i (times_in minTop i p)))
+at_factor min_top min_bottom max_top max_bottom i p = over_in max_bottom i (times_in max_top i (over_in min_bottom i (times_in min_top i p)))
 
 -- the factors i + 1, i + 2, .., of which there are n
 unfoldable pub factors : ℕ → ℕ → ℕ → ℕ → ℕ → ℕ → Float → Float
-factors minTop minBottom maxTop maxBottom zero i p = p
-factors minTop minBottom maxTop maxBottom (suc n) i p =
-    factors minTop minBottom maxTop maxBottom n (i + 1) (at_factor minTop minBottom maxTop maxBottom (i + 1) p)
+factors min_top min_bottom max_top max_bottom zero i p = p
+factors min_top min_bottom max_top max_bottom (suc n) i p =
+    factors min_top min_bottom max_top max_bottom n (i + 1) (at_factor min_top min_bottom max_top max_bottom (i + 1) p)
 
 -- a!·b! / (c!·d!), from 1: the factors up to the least of the four stand above and below, and are left out
 unfoldable pub fraction_of_factorials : ℕ → ℕ → ℕ → ℕ → Float
 fraction_of_factorials a b c d =
-    let minAll = min (min a b) (min c d) in
-    let maxAll = max (max a b) (max c d) in
-    factors (min a b) (min c d) (max a b) (max c d) (maxAll - minAll) minAll (ratio 1 1)
+    let min_all = min (min a b) (min c d) in
+    let max_all = max (max a b) (max c d) in
+    factors (min a b) (min c d) (max a b) (max c d) (max_all - min_all) min_all (ratio 1 1)
 
 -- the first probability's four numbers, two above the line and two below, by whether k is below n2
 unfoldable pub first_probability : ℕ → ℕ → ℕ → ℕ → Float

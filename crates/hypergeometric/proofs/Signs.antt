@@ -79,20 +79,20 @@ module _ (i : ℕ) (w : T (positive (as_float i))) where
   unfolding over_in
   over_plain bottom p k = cond_plain (leb i bottom) (div binary64 p (as_float i)) p (div_plain p (as_float i) k w) k
 
-module _ (minTop minBottom maxTop maxBottom : ℕ) where
+module _ (min_top min_bottom max_top max_bottom : ℕ) where
   -- each of the four steps keeps it, in whatever order they stand
-  at_plain : (i : ℕ) (p : Float) → 0 < i → i ≤ 2 ^ 53 → Plain p → Plain (at_factor minTop minBottom maxTop maxBottom i p)
+  at_plain : (i : ℕ) (p : Float) → 0 < i → i ≤ 2 ^ 53 → Plain p → Plain (at_factor min_top min_bottom max_top max_bottom i p)
   unfolding at_factor
   at_plain i p l h k =
       let w = positive_of_value (as_float i) i 1 (whole_exact i h) l in
       let either = cond_plain in
       search (times_plain, over_plain)
 
-  factors_plain : (n i : ℕ) (p : Float) → n + i ≤ 2 ^ 53 → Plain p → Plain (factors minTop minBottom maxTop maxBottom n i p)
+  factors_plain : (n i : ℕ) (p : Float) → n + i ≤ 2 ^ 53 → Plain p → Plain (factors min_top min_bottom max_top max_bottom n i p)
   unfolding factors
   factors_plain zero i p h k = k
   factors_plain (suc n) i p h k =
-      factors_plain n (i + 1) (at_factor minTop minBottom maxTop maxBottom (i + 1) p) (omega arith) (at_plain (i + 1) p (omega arith) (omega arith) k)
+      factors_plain n (i + 1) (at_factor min_top min_bottom max_top max_bottom (i + 1) p) (omega arith) (at_plain (i + 1) p (omega arith) (omega arith) k)
 
 within : (low high top : ℕ) → low ≤ high → high ≤ top → high - low + low ≤ top
 within low high top l h = omega arith
@@ -100,11 +100,11 @@ within low high top l h = omega arith
 fraction_plain : (a b c d : ℕ) → a ≤ 2 ^ 53 → b ≤ 2 ^ 53 → c ≤ 2 ^ 53 → d ≤ 2 ^ 53 → Plain (fraction_of_factorials a b c d)
 unfolding fraction_of_factorials
 fraction_plain a b c d ha hb hc hd =
-    let minAll = min (min a b) (min c d) in
-    let maxAll = max (max a b) (max c d) in
-    let m : maxAll ≤ 2 ^ 53 = omega arith in
-    let l : minAll ≤ maxAll = omega arith in
-    factors_plain (min a b) (min c d) (max a b) (max c d) (maxAll - minAll) minAll (ratio 1 1) (within minAll maxAll (2 ^ 53) l m) (round_plain binary64 1 1)
+    let min_all = min (min a b) (min c d) in
+    let max_all = max (max a b) (max c d) in
+    let m : max_all ≤ 2 ^ 53 = omega arith in
+    let l : min_all ≤ max_all = omega arith in
+    factors_plain (min a b) (min c d) (max a b) (max c d) (max_all - min_all) min_all (ratio 1 1) (within min_all max_all (2 ^ 53) l m) (round_plain binary64 1 1)
 
 pub first_plain : (N n1 n2 k : ℕ) → N ≤ population_cap → n1 ≤ N → n2 ≤ N → k ≤ N → Plain (first_probability N n1 n2 k)
 unfolding first_probability

@@ -70,7 +70,7 @@ judged r here rust = cond (same here rust) (alike here) (apart r here rust)
 -- of a mean in quarters: the outcome here, the outcome here with the Rust's threshold, and the Rust's. Entry eleven: the last two are the same,
 -- and the first is another
 unfoldable pub mean_judged : Outcome ℕ → Outcome ℕ → Outcome ℕ → Verdict
-mean_judged here withIts rust = cond (same withIts rust) (cond (same here rust) Agrees (Listed 11)) Differs
+mean_judged here with_its rust = cond (same with_its rust) (cond (same here rust) Agrees (Listed 11)) Differs
 
 -- a verdict held against the entry that a case names, 0 for none: both have to say the same
 abbrev pub as_marked : ℕ → Verdict → Verdict
