@@ -1,4 +1,6 @@
 // The line that answers a call of the pull service, as bytes.
+#![tactic(auto)]
+
 ghost use Rattle.std.specs.Prelude.{◌++◌, ◌^◌, ◌≤◌, ◌<◌, length};
 ghost use Rattle.std.proofs.Math.Option.{some};
 ghost use Rattle.words.specs.Paper.{number_of};

@@ -1,5 +1,7 @@
 // The functions for C: a draw of each kind, and each call on a book, with one struct for every answer. include/banlothek.h declares them,
 // and says what a caller in C owes.
+#![tactic(auto)]
+
 ghost use Rattle.std.specs.Prelude.{◌≡◌, [], ◌∷◌, ◌<◌, ◌^◌};
 ghost use Rattle.words.specs.Outcome.{used_of};
 ghost use Rattle.words.specs.Paper.{number_of, paper};
@@ -14,7 +16,7 @@ use words::{Answer, Draw, Refusal, number};
 
 // What every function answers. The header's `banlothek_answer` has these fields in this order.
 #[repr(C)]
-#[derive(Drop)]
+#[derive(Clone, Copy)]
 pub struct BanlothekAnswer {
     pub refusal: u32,
     pub copied: u32,

@@ -1,5 +1,7 @@
 // Draws many times from one kept tray, for bench/run: standard input has N, K, n, the number of draws, and the words of a tape, each as 8
 // bytes, the lowest first. Draw i is over the word at place i, counted round. Writes the sum of the counts.
+#![tactic(auto)]
+
 ghost use Rattle.std.specs.Prelude.{◌≤◌};
 ghost use Rattle.hypergeometric.specs.SetUp.{FromSetUp};
 

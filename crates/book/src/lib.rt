@@ -1,4 +1,6 @@
 // The book of draws: deliveries and strikes. A copy of a message gets the answer that it got before.
+#![tactic(auto)]
+
 ghost use Rattle.std.specs.Prelude.{◌≡◌, [], ◌∷◌, cond, not, ◌&&◌, ◌+◌, ◌^◌, ◌<◌};
 ghost use Rattle.words.specs.Refusals.{◌on◌, given};
 ghost use Rattle.words.specs.Inner.{is_short, drew};
@@ -18,7 +20,7 @@ use opening::{Opened, open_book};
 use words::{Answer, Draw, Refusal, is_short, number};
 
 // What a delivery answers: what was freshly drawn and booked, or what was booked before; or why there is nothing.
-#[derive(Drop)]
+#[derive(Clone, Copy)]
 pub enum Delivered {
     Fresh(Draw),
     Copy(Draw),
@@ -26,7 +28,7 @@ pub enum Delivered {
 }
 
 // What a strike answers: the number of entries left, or why nothing was struck.
-#[derive(Drop)]
+#[derive(Clone, Copy)]
 pub enum Struck {
     Left { entries: u64 },
     Refused(Refusal),

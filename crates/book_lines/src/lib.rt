@@ -1,4 +1,6 @@
 // The listing of a book, as bytes: a header, a line for each entry, and their number; or the one line of a refusal.
+#![tactic(auto)]
+
 ghost use Rattle.std.specs.Prelude.{◌≡◌, ◌+◌, ◌*◌, ◌≤◌, length};
 ghost use Rattle.words.specs.Refusals.{NoneHolds};
 ghost use Rattle.writing.specs.Writing.{Writes};

@@ -1,4 +1,6 @@
 // Numbers in lent bytes, the lowest byte first, and zeros: one read and one write for every width; the words of a tape.
+#![tactic(auto)]
+
 ghost use Rattle.std.specs.Prelude.{◌≡◌, ◌+◌, ◌*◌, ◌≤◌, length, drop};
 ghost use Rattle.std.proofs.lemmas.List.Edits.{sets};
 ghost use Rattle.bytes_le.specs.LittleEndian.{bytes_of, spelled, words_from};

@@ -1,4 +1,6 @@
 // One draw of a request of any kind.
+#![tactic(auto)]
+
 ghost use Rattle.draws.specs.Request.{Answers};
 
 use kinds::Request;

@@ -1,4 +1,6 @@
 // One entry of a book, read and written. Only here and in layout is it known where a field stands.
+#![tactic(auto)]
+
 ghost use Rattle.std.specs.Prelude.{◌≡◌, cond, ◌+◌, ◌*◌, ◌≤◌, ltb, length, get_or, drop};
 ghost use Rattle.std.proofs.Math.Option.{some};
 ghost use Rattle.std.proofs.lemmas.List.Edits.{sets};
@@ -25,7 +27,7 @@ const COUNT: usize = 16;
 pub const FIXED: usize = 24;
 
 // A booking: what was asked for, its serial, the tape's place before the draw, the words used and the count.
-#[derive(Drop)]
+#[derive(Clone, Copy)]
 pub struct Entry {
     pub request: Request,
     pub serial: u64,

@@ -1,4 +1,6 @@
 // The first probability of a tray: a fraction of products of factorials, its float steps in the order of rand_distr's hypergeometric.rs.
+#![tactic(auto)]
+
 ghost use Rattle.std.specs.Prelude.{◌≡◌, ◌≤◌, ◌^◌, min, max};
 ghost use Rattle.first_probability.specs.First.{as_float, times_in, over_in, at_factor, fraction_of_factorials, first_probability};
 

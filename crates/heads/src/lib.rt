@@ -1,6 +1,8 @@
 // A call of every entry point of every crate, with plain parameters and with nothing shown first: an entry point that came to demand
 // something of its caller, or that said less of its answer than the demands speak of, would leave the call here without its proof.
 // Nothing calls these.
+#![tactic(auto)]
+
 ghost use Rattle.std.specs.Prelude.{◌≡◌, [], ◌∷◌};
 ghost use Rattle.std.specs.Float.{binary64};
 ghost use Rattle.std.specs.Float.Ieee.{of_bits};

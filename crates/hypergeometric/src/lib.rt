@@ -1,5 +1,7 @@
 // `Hypergeometric` of rand_distr's hypergeometric.rs, with its `InverseTransform` branch: the other branch needs ln and exp, whose last
 // bits are the platform's.
+#![tactic(auto)]
+
 ghost use Rattle.std.specs.Prelude.{◌≡◌, [], ◌∷◌, ◌≤◌, ◌<◌};
 ghost use Rattle.std.specs.Float.Ieee.Scale.{finite};
 ghost use Rattle.words.specs.Outcome.{drawn};
@@ -18,14 +20,14 @@ use words::{Answer, Draw, Refusal, Word};
 const CAP: u64 = 1_048_576;
 
 // The sign of x in offset + sign·x.
-#[derive(Drop)]
+#[derive(Clone, Copy)]
 enum Sign {
     Plus,
     Minus,
 }
 
 // What the reduction leaves of a population, its marked and a sample of it.
-#[derive(Drop)]
+#[derive(Clone, Copy)]
 struct Reduced {
     n1: u64,
     n2: u64,
@@ -35,7 +37,7 @@ struct Reduced {
 }
 
 // The set-up record: the reduction's numbers and the probability of x = 0. Only the set-up makes one.
-#[derive(Drop)]
+#[derive(Clone, Copy)]
 pub struct Hypergeometric {
     n1: u64,
     n2: u64,
@@ -46,7 +48,7 @@ pub struct Hypergeometric {
 }
 
 // What the set-up answers: its record, or why there is none.
-#[derive(Drop)]
+#[derive(Clone, Copy)]
 pub enum SetUp {
     Ready(Hypergeometric),
     Refused(Refusal),

@@ -1,10 +1,12 @@
 // Bytes from a descriptor, an error told from the end, which the kit's `read_full` can't. What is read no contract can say; how many
 // bytes of the buffer it fills, these do.
+#![tactic(auto)]
+
 ghost use Rattle.std.specs.Prelude.{length};
 ghost use Rattle.input.specs.Inner.{Within};
 
 // What reading gave: so many bytes, 0 at the end; or that it failed.
-#[derive(Drop)]
+#[derive(Clone, Copy)]
 pub enum Got {
     Bytes(usize),
     Failed,

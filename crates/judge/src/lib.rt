@@ -1,4 +1,6 @@
 // Whether a draw here is what the Rust drew over the same words, and where it isn't, which entry of docs/DIFFERENCES.md says so.
+#![tactic(auto)]
+
 ghost use Rattle.std.specs.Prelude.{◌≡◌};
 ghost use Rattle.words.specs.Paper.{paper, told};
 ghost use Rattle.judge.specs.Judging.{rust_did, same, not_taken, alike, outside_tray, is_outside, by_refusal, apart, judged, mean_judged, as_marked};
@@ -8,14 +10,14 @@ use kinds::{Request, parts_of};
 use words::{Answer, Draw, number};
 
 // What the Rust did: it drew, or, where a draw here is refused by this number, it stopped or chose a branch that is not taken.
-#[derive(Drop)]
+#[derive(Clone, Copy)]
 pub enum Said {
     Drew(Draw),
     Stopped { number: u32 },
 }
 
 // What comes of comparing: the same answer, a difference that an entry of docs/DIFFERENCES.md lists, or one that none does.
-#[derive(Drop)]
+#[derive(Clone, Copy)]
 pub enum Verdict {
     Agrees,
     Listed { entry: u64 },

@@ -1,10 +1,12 @@
 // What may be asked for, and the table of kinds: a kind's number, its entry's length, its parameters, and the request that they make.
+#![tactic(auto)]
+
 ghost use Rattle.std.specs.Prelude.{◌≡◌};
 ghost use Rattle.kinds.specs.Kinds.{length_in, parameters_in, kind_of, kind_number, length_of, parts_of, same_parts, same_request};
 ghost use Rattle.kinds.specs.Inner.{row_of, Alike};
 
 // A request of any kind that a book can hold, with its parameters as a book holds them, floats by their 64 bits.
-#[derive(Drop)]
+#[derive(Clone, Copy)]
 pub enum Request {
     Hypergeometric {
         total: u64,
@@ -25,7 +27,7 @@ pub enum Request {
 
 // A row of the table: the length of a kind's entry, the number of its parameters, and the request that they make; or that the number is no
 // kind's.
-#[derive(Drop)]
+#[derive(Clone, Copy)]
 pub enum Row {
     Of {
         length: u64,
@@ -36,7 +38,7 @@ pub enum Row {
 }
 
 // A request by its kind's number and its parameters, with 0 past the last.
-#[derive(Drop)]
+#[derive(Clone, Copy)]
 pub struct Parts {
     pub kind: u16,
     pub first: u64,

@@ -1,4 +1,6 @@
 // The layout of a book: entries one after another, and the walk over all of them.
+#![tactic(auto)]
+
 ghost use Rattle.std.specs.Prelude.{◌≡◌, cond, ◌+◌, ◌≤◌, length, drop};
 ghost use Rattle.entry.specs.Entry.{length_at};
 ghost use Rattle.layout.specs.Book.{book_too_long, is_closed, head};
@@ -10,7 +12,7 @@ use entry::{FIXED, KIND, PLACE, SERIAL, USED};
 use kinds::length_by;
 
 // How a book stands: the number of its entries, where they end, and the tape's place after them.
-#[derive(Drop)]
+#[derive(Clone, Copy)]
 pub struct Standing {
     pub entries: u64,
     pub end: usize,
@@ -21,7 +23,7 @@ pub struct Standing {
 const MOST_BYTES: usize = 65_536;
 
 // What stands at the front of the bytes that are left.
-#[derive(Drop)]
+#[derive(Clone, Copy)]
 enum Head {
     End,
     Damage,
@@ -29,7 +31,7 @@ enum Head {
 }
 
 // What a walk tells of a book: how it stands, or that it is not sound.
-#[derive(Drop)]
+#[derive(Clone, Copy)]
 pub enum Walked {
     Damaged,
     Sound(Standing),

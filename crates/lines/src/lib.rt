@@ -1,4 +1,6 @@
 // Parts of a line that a program writes: a number and the byte that ends it, a line of a text and a number, the line of a refusal.
+#![tactic(auto)]
+
 ghost use Rattle.std.specs.Prelude.{[], ◌∷◌, ◌++◌, ◌+◌, ◌≤◌, ◌<◌, length};
 ghost use Rattle.words.specs.Paper.{number_of};
 ghost use Rattle.writing.specs.Digits.{decimal};

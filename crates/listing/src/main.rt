@@ -1,4 +1,6 @@
 // Lists the book on standard input: a header, a line for each entry, and their number; or the one line of a refusal.
+#![tactic(auto)]
+
 use book_lines::LISTING_BYTES;
 use input::Got;
 use libc::{STDIN_FILENO, STDOUT_FILENO};

@@ -1,4 +1,6 @@
 // The name of a refusal, as text.
+#![tactic(auto)]
+
 ghost use Rattle.std.specs.Prelude.{[], ◌∷◌, ◌++◌, ◌+◌, ◌≤◌, length};
 ghost use Rattle.words.specs.Paper.{number_of};
 ghost use Rattle.writing.specs.Writing.{Writes};

@@ -1,4 +1,6 @@
 // Numbers read from text, in ASCII: whole numbers, decimals and the bits of a float.
+#![tactic(auto)]
+
 ghost use Rattle.std.specs.Prelude.{◌≡◌, ◌^◌, ◌≤◌, ◌<◌};
 ghost use Rattle.numerals.specs.Digits.{continued, digit_of};
 ghost use Rattle.numerals.specs.Digits.{number as Digits·number};
@@ -8,7 +10,7 @@ ghost use Rattle.numerals.specs.Inner.{placed};
 use bytes::scan::find;
 
 // What a text is read as: a number, or the bits of a float; or that it is neither.
-#[derive(Drop)]
+#[derive(Clone, Copy)]
 pub enum Number {
     Is(u64),
     Unread,

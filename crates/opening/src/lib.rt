@@ -1,4 +1,6 @@
 // What every call on a book begins with: the limits of tape and book, and the walk.
+#![tactic(auto)]
+
 ghost use Rattle.std.specs.Prelude.{◌≡◌};
 ghost use Rattle.opening.specs.Inner.{opened, opened_as};
 
@@ -6,7 +8,7 @@ use layout::{Standing, Walked, walk};
 use words::{Refusal, too_long};
 
 // How a book stands that is sound for its tape, or why a call goes no further.
-#[derive(Drop)]
+#[derive(Clone, Copy)]
 pub enum Opened {
     Sound(Standing),
     Refused(Refusal),

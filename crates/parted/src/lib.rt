@@ -1,4 +1,6 @@
 // Text that is parted at its spaces: where a word begins.
+#![tactic(auto)]
+
 ghost use Rattle.std.specs.Prelude.{◌≡◌, ◌≤◌, length, drop};
 ghost use Rattle.parted.specs.Parts.{past_words};
 

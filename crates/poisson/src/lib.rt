@@ -1,5 +1,7 @@
 // `KnuthMethod` of rand_distr's poisson.rs: the product of fractions against a threshold that is handed in,
 // since exp's last bits are the platform's.
+#![tactic(auto)]
+
 ghost use Rattle.std.specs.Prelude.{◌≡◌};
 ghost use Rattle.std.specs.Float.{binary64};
 ghost use Rattle.std.specs.Float.Ieee.{of_bits};

@@ -12,7 +12,7 @@ use std::num::wrapping_add_u64;
 const LINE_BYTES: usize = 257;
 
 // How far the reading is: the number of the line at hand, how many of its bytes are kept, and whether to go on.
-#[derive(Drop)]
+#[derive(Clone, Copy)]
 struct Reading {
     number: u64,
     length: usize,

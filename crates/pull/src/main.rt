@@ -1,4 +1,6 @@
 // The pull service: answers each line of standard input by a line, over a tape and a book that are files.
+#![tactic(auto)]
+
 mod lines;
 mod store;
 mod tape;

@@ -16,7 +16,7 @@ pub(crate) const READ_BYTES: usize = 65_537;
 pub(crate) const MOST_NAME: usize = 4091;
 
 // What the book's file gave: so many bytes; or that it can't be read, or can't be made.
-#[derive(Drop)]
+#[derive(Clone, Copy)]
 pub(crate) enum Kept {
     Bytes(usize),
     Unread,

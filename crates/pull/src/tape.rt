@@ -11,7 +11,7 @@ pub(crate) const MOST_WORDS: usize = 131_072;
 const CHUNK_BYTES: usize = 4096;
 
 // What a tape's file gave: so many words; or that it holds more than the program does, or can't be read as words.
-#[derive(Drop)]
+#[derive(Clone, Copy)]
 pub(crate) enum Loaded {
     Words(usize),
     TooLong,
@@ -19,7 +19,7 @@ pub(crate) enum Loaded {
 }
 
 // What a part of the file adds to the words so far: the number of words now, and whether the file may go on.
-#[derive(Drop)]
+#[derive(Clone, Copy)]
 enum Taken {
     More(usize),
     Last(usize),

@@ -1,4 +1,6 @@
 // A Poisson draw by its mean, in quarters of a vial: `KnuthMethod` with a threshold from a list, since e^-x is nobody's to work out.
+#![tactic(auto)]
+
 ghost use Rattle.std.specs.Prelude.{◌≡◌, ◌≤◌};
 ghost use Rattle.words.specs.Draw.{DrawAllows};
 ghost use Rattle.quarters.specs.Quarters.{E, most_quarters, threshold_of, quarters};

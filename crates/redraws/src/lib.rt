@@ -1,4 +1,6 @@
 // The redraw: every entry of a book is drawn again from its place.
+#![tactic(auto)]
+
 ghost use Rattle.std.specs.Prelude.{◌≡◌, ◌≤◌, length};
 ghost use Rattle.words.specs.Refusals.{NoneHolds};
 ghost use Rattle.opening.specs.Calls.{booked, limits};
@@ -10,7 +12,7 @@ use opening::{Opened, open_book};
 use words::{Answer, Refusal};
 
 // What a redraw answers: that all of so many entries agree, the lowest serial that doesn't (refusal 17), or why nothing was drawn again.
-#[derive(Drop)]
+#[derive(Clone, Copy)]
 pub enum Redrawn {
     Agrees { entries: u64 },
     Differs { serial: u64 },

@@ -1,4 +1,6 @@
 // A line of the pull service: which lines are read, and as what.
+#![tactic(auto)]
+
 ghost use Rattle.std.specs.Prelude.{◌≡◌, ◌<◌, eqb};
 ghost use Rattle.numerals.specs.Digits.{number};
 ghost use Rattle.numerals.specs.Decimal.{float_bits};
@@ -13,7 +15,7 @@ use numerals::{Number, float_bits, whole_number};
 use parted::{SPACE, start_of};
 
 // What a line asks for: a call; nothing, where it is passed over; or that it can't be read.
-#[derive(Drop)]
+#[derive(Clone, Copy)]
 pub enum Line {
     Deliver { serial: u32, request: Request },
     Strike { j: u64 },
@@ -24,7 +26,7 @@ pub enum Line {
 }
 
 // The request of a delivery, or that it can't be read.
-#[derive(Drop)]
+#[derive(Clone, Copy)]
 enum Asked {
     For(Request),
     Unread,

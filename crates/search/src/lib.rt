@@ -1,4 +1,6 @@
 // The search of the geometric draw for p below 2/3: q squared until it is at most a half, the first run, and the remainder.
+#![tactic(auto)]
+
 ghost use Rattle.std.specs.Prelude.{◌≡◌, false, ◌≤◌, ◌^◌, length, drop, Float};
 ghost use Rattle.std.specs.Float.Ieee.{lt};
 ghost use Rattle.words.specs.Words.{most_words, ratio};
@@ -11,7 +13,7 @@ ghost use Rattle.search.specs.Search.{search_rule, remainder_word};
 use words::{Answer, Draw, Refusal, Word};
 
 // What the squarings of q come to, and their number k.
-#[derive(Drop)]
+#[derive(Clone, Copy)]
 pub struct Squared {
     pub k: u32,
     pub pi: f64,

@@ -1,4 +1,6 @@
 // One line of the pull service: it is read, its call is made, and its answer is a line of bytes.
+#![tactic(auto)]
+
 ghost use Rattle.std.specs.Prelude.{◌≡◌};
 ghost use Rattle.words.specs.Outcome.{drawn};
 ghost use Rattle.book.specs.Deliver.{delivered};
@@ -16,7 +18,7 @@ use request_line::Line;
 use words::Refusal;
 
 // How many bytes of an answer there are, none where there is nothing to say; and whether the book has to be written before them.
-#[derive(Drop)]
+#[derive(Clone, Copy)]
 pub struct Served {
     pub length: usize,
     pub changed: bool,

@@ -1,4 +1,6 @@
 // `StandardGeometric` of rand_distr's geometric.rs.
+#![tactic(auto)]
+
 ghost use Rattle.std.specs.Prelude.{◌≡◌, ◌≤◌, length, drop};
 ghost use Rattle.words.specs.Words.{most_words};
 ghost use Rattle.words.specs.Rule.{more, read};

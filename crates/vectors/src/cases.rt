@@ -20,7 +20,7 @@ const MEAN: u64 = 1_003;
 const MOST_KIND: u64 = 65_535;
 
 // What stands before a case's tape.
-#[derive(Drop)]
+#[derive(Clone, Copy)]
 pub(crate) struct Head {
     pub(crate) kind: u64,
     pub(crate) first: u64,
@@ -31,7 +31,7 @@ pub(crate) struct Head {
 }
 
 // A case's request; or a kept tray, a fraction, or a mean; or a kind that there isn't.
-#[derive(Drop)]
+#[derive(Clone, Copy)]
 enum Asked {
     Draw(Request),
     Kept,

@@ -1,6 +1,8 @@
 // Draws again what the Rust drew. Standard input has cases as oracle/README.md describes them: a request, the words, and what the Rust
 // did; or a word and its fraction. Writes the first few that differ where no entry of docs/DIFFERENCES.md says so; then how many cases of
 // each kind there were and how many of them agree, how many differ by each entry, and how many others.
+#![tactic(auto)]
+
 mod cases;
 mod compare;
 mod kept;
@@ -16,7 +18,7 @@ use tally::TALLY;
 const BLOCK_WORDS: usize = 8_192;
 
 // What came of a block: its cases are drawn again and there may be more, the input has ended, or nothing can be made of it.
-#[derive(Drop)]
+#[derive(Clone, Copy)]
 enum Block {
     Drawn,
     End,

@@ -1,11 +1,13 @@
 // What every draw shares: a word of the tape by its place, the fraction of a word, the refusals, and a draw's answer.
+#![tactic(auto)]
+
 ghost use Rattle.std.specs.Prelude.{◌≡◌};
 ghost use Rattle.words.specs.Words.{fraction_of, too_long};
 ghost use Rattle.words.specs.Inner.{word_at, is_short};
 ghost use Rattle.words.specs.Paper.{number_of};
 
 // Why a call was refused: every name of the table of refusals, in the order of its numbers.
-#[derive(Drop)]
+#[derive(Clone, Copy)]
 pub enum Refusal {
     TapeTooLong,
     PopulationTooLarge,
@@ -28,21 +30,21 @@ pub enum Refusal {
 }
 
 // What was drawn: the count, and the number of words that the draw used.
-#[derive(Drop)]
+#[derive(Clone, Copy)]
 pub struct Draw {
     pub count: u64,
     pub used: usize,
 }
 
 // What a draw answers: what was drawn, or why nothing was.
-#[derive(Drop)]
+#[derive(Clone, Copy)]
 pub enum Answer {
     Drawn(Draw),
     Refused(Refusal),
 }
 
 // What stands at a place of the tape.
-#[derive(Drop)]
+#[derive(Clone, Copy)]
 pub enum Word {
     Is(u64),
     End,

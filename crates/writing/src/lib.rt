@@ -1,4 +1,6 @@
 // Text written into lent bytes, in ASCII: a text as it is, and a number by its decimal digits.
+#![tactic(auto)]
+
 ghost use Rattle.std.specs.Prelude.{[], ◌∷◌, ◌+◌, ◌≤◌, ◌<◌, length};
 ghost use Rattle.writing.specs.Digits.{decimal};
 ghost use Rattle.writing.specs.Writing.{Writes};
