@@ -76,12 +76,6 @@ module _ (l : List ℕ) (k at : ℕ) where
       lt_of_lt_of_le (spelled_lt (k - i) (drop (at + i) l) (bytes_drop l (at + i) by))
       (pow-le-pow_right {n = 256} (omega arith) {i = k - i} {j = 7} (omega arith))
 
-  pub read_done : (i r : ℕ) → i ≤ 0 → r ≡ spelled (k - i) (drop (at + i) l) → r ≡ spelled k (drop at l)
-  read_done i r h e =
-      let a : at + i ≡ at = omega arith in
-      let n : k - i ≡ k = omega arith in
-      e ∙ rw (a, n)
-
 -- ---- a turn of the loop that writes
 
 pub write_turn : (l : List ℕ) (k at i v : ℕ) → i < k

@@ -4,11 +4,10 @@ use mathlib.Core.Logic.{⊎_elim}
 use mathlib.Core.List.{List, [], ◌∷◌, ◌++◌}
 use Prim.Native.Nat.{ℕ, zero, suc, ◌+◌, ◌/◌, ◌%◌, ◌^◌, ◌≤◌, ◌<◌}
 use native.Mathlib.Nat.{pow-suc, eq-zero-or-pos}
-use native.Mathlib.Numerals.{add-one}
 use native.Mathlib.Omega.{arith}
 use borrow.Author.Tests.{lt-ltb, le-ltb}
-use lib.ListN.{length, get_or, take, drop, set, length-append, drop_of_length-le}
-use lib.Seq.{sets, sets-eq, length-sets, drop-cons, take-append_seam}
+use lib.ListN.{length, take, length-append}
+use lib.Seq.{sets, sets-eq, length-sets, take-append_seam}
 use Rattle.bytes_le.proofs.Runs.{sets_append}
 use Rattle.writing.specs.Digits.{decimal_of, decimal}
 use Rattle.writing.specs.Writing.{Writes}
@@ -30,16 +29,6 @@ written_whole l t h = ap (take (length t)) (sets-eq t l 0 (omega arith)) ∙ tak
 -- the place after a text lies within the bytes that it was written to
 pub written_within : {l t m : List ℕ} {i j : ℕ} → Writes l i t m j → j ≤ length m
 written_within {l} {t} {m} {i} w = omega (arith, w.room, ap length w.bytes, length-sets l i t)
-
--- with the byte i stored, what is left to store is the bytes after it
-pub text_turn : (l t : List ℕ) (at i : ℕ) → i < length t → sets (set l (at + i) (get_or t i 0)) (at + (i + 1)) (drop (i + 1) t) ≡ sets l (at + i) (drop i t)
-text_turn l t at i h =
-    let e : at + (i + 1) ≡ suc (at + i) = omega arith in
-    rw (e, add-one i, drop-cons t i 0 h)
-
--- past the last, nothing is left to store
-pub text_done : (l d t : List ℕ) (j i : ℕ) → length t ≤ i → sets l j (drop i t) ≡ d → l ≡ d
-text_done l d t j i h e = rw (drop_of_length-le t h) at e
 
 -- ---- a number's digits
 

@@ -1,0 +1,5 @@
+-- n measures the calls that are left.
+use Rattle.writing.proofs.+put_decimal.Given as goal
+
+abbrev pub decreases-put_decimal : goal.decreases-put_decimal
+decreases-put_decimal l = l.n
