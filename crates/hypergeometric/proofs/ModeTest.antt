@@ -9,7 +9,7 @@ use native.Mathlib.Omega.{arith}
 use borrow.Author.Tests.{lt-ltb, le-ltb, ne_eqb, ltb-true, ltb-false}
 use lib.Dec.{T, ltb, ltb→lt, lit≤}
 use lib.Pow.{pow_pos}
-use lib.Ieee.{Float, fin, binary64, up, down, round, sum, sub, mul, div, lt, le, of_int}
+use lib.Ieee.{Float, nan, inf, fin, binary64, up, down, round, sum, sub, mul, div, lt, le, of_int}
 use lib.Ieee.Exact.{HasValue}
 use lib.Ieee.Back.{round_whole}
 use lib.Ieee.Fits.{down_pos}
@@ -44,7 +44,11 @@ over m a p q h = ap (λ (z : ℕ). z * q) (sym (mul-one m) ∙ h) ∙ mul_assoc 
 -- The test, the difference and the quotient of two floats with whole values are the numbers': over one denominator only a factor is between them.
 lt_whole : (x y : Float) (a b : ℕ) → HasValue x false a 1 → HasValue y false b 1 → lt x y ≡ ltb a b
 unfolding lt
+lt_whole nan y a b h k = elim h [ ]
+lt_whole (inf s) y a b h k = elim h [ ]
 lt_whole (fin true m e) y a b h k = absurd (true≢false h.0)
+lt_whole (fin false m e) nan a b h k = elim k [ ]
+lt_whole (fin false m e) (inf s) a b h k = elim k [ ]
 lt_whole (fin false m e) (fin true n d) a b h k = absurd (true≢false k.0)
 lt_whole (fin false m e) (fin false n d) a b h k =
     rw (over (m * up e) a (down e) (down d) h.1, over (n * up d) b (down d) (down e) k.1, mul_comm (down d) (down e))
@@ -59,7 +63,11 @@ sum_scale a b c C = rw (ltb_scale a b c C, same true b a, same false a b)
 
 sub_whole : (x y : Float) (a b : ℕ) → HasValue x false a 1 → HasValue y false b 1 → sub binary64 x y ≡ sum binary64 false a true b 1
 unfolding sub
+sub_whole nan y a b h k = elim h [ ]
+sub_whole (inf s) y a b h k = elim h [ ]
 sub_whole (fin true m e) y a b h k = absurd (true≢false h.0)
+sub_whole (fin false m e) nan a b h k = elim k [ ]
+sub_whole (fin false m e) (inf s) a b h k = elim k [ ]
 sub_whole (fin false m e) (fin true n d) a b h k = absurd (true≢false k.0)
 sub_whole (fin false m e) (fin false n d) a b h k =
     rw (over (m * up e) a (down e) (down d) h.1, over (n * up d) b (down d) (down e) k.1, mul_comm (down d) (down e))
@@ -67,7 +75,11 @@ sub_whole (fin false m e) (fin false n d) a b h k =
 
 div_whole : (x y : Float) (a b : ℕ) → 0 < b → HasValue x false a 1 → HasValue y false b 1 → div binary64 x y ≡ ratio a b
 unfolding div
+div_whole nan y a b B h k = elim h [ ]
+div_whole (inf s) y a b B h k = elim h [ ]
 div_whole (fin true m e) y a b B h k = absurd (true≢false h.0)
+div_whole (fin false m e) nan a b B h k = elim k [ ]
+div_whole (fin false m e) (inf s) a b B h k = elim k [ ]
 div_whole (fin false m e) (fin true n d) a b B h k = absurd (true≢false k.0)
 div_whole (fin false m e) (fin false n d) a b B h k =
     let c = down e * down d in
@@ -104,6 +116,8 @@ from_ten A B P h = round_mono binary64 10 1 A B (pow_pos 0) P (omega arith)
 -- nothing negative is above 0
 not_above : (z : Float) (a : ℕ) → HasValue z true a 1 → lt (ratio 0 1) z ≡ false
 unfolding lt round
+not_above nan a v = elim v [ ]
+not_above (inf s) a v = elim v [ ]
 not_above (fin false m e) a v = absurd (false≢true v.0)
 not_above (fin true m e) a v = refl
 
@@ -143,6 +157,8 @@ module _ (q : Float) (p : T (positive q)) where
 -- which `floor` rounds, as its definition says
 floor_is : (x : Float) → T (positive x) → floor x ≡ ratio (num x / den x) 1
 unfolding floor
+floor_is nan p = elim p [ ]
+floor_is (inf s) p = elim p [ ]
 floor_is (fin true m e) p = absurd p
 floor_is (fin false m e) p = refl
 
