@@ -30,7 +30,11 @@ next_q = ratio 9007199251833723 (2 ^ 53)
 -- the test is one of fractions
 lt_is : (x y : Float) → T (positive x) → T (positive y) → lt x y ≡ ltb (num x * den y) (num y * den x)
 unfolding lt
+lt_is nan y p q = absurd p
+lt_is (inf s) y p q = absurd p
 lt_is (fin true m e) y p q = absurd p
+lt_is (fin false m e) nan p q = absurd q
+lt_is (fin false m e) (inf s) p q = absurd q
 lt_is (fin false m e) (fin true n d) p q = absurd q
 lt_is (fin false m e) (fin false n d) p q = refl
 
@@ -54,6 +58,7 @@ lt_le x y z p q r h k =
 
 -- a float above 0 is finite, or the infinity, which no float is above
 either : (x : Float) → T (above x) → T (positive x) ⊎ (x ≡ inf false)
+either nan p = absurd p
 either (inf true) p = absurd p
 either (inf false) p = inr refl
 either (fin true m e) p = absurd p
@@ -61,6 +66,8 @@ either (fin false m e) p = inl p
 
 under_infinity : (x : Float) → T (positive x) → (lt x (inf false) ≡ true) × T (le x (inf false))
 unfolding lt le
+under_infinity nan p = absurd p
+under_infinity (inf s) p = absurd p
 under_infinity (fin true m e) p = absurd p
 under_infinity (fin false m e) p = (refl, tt)
 
