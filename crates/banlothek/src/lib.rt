@@ -1,5 +1,5 @@
 // The functions for C: a draw of each kind, and each call on a book, with one struct for every answer. include/banlothek.h declares them,
-// and says what a caller in C owes.
+// and says what a caller in C owes. The crate banlothek_c exports them.
 #![tactic(auto)]
 
 ghost use Rattle.std.specs.Prelude.{◌≡◌, [], ◌∷◌, ◌<◌, ◌^◌};
@@ -80,8 +80,7 @@ fn told(answer: Answer) -> BanlothekAnswer
     }
 }
 
-#[unsafe(no_mangle)]
-pub extern "C" fn banlothek_draw_hypergeometric(
+pub fn banlothek_draw_hypergeometric(
     tape: &[u64],
     total: u64,
     marked: u64,
@@ -92,29 +91,25 @@ pub extern "C" fn banlothek_draw_hypergeometric(
     told(hypergeometric::sample(tape, total, marked, sample))
 }
 
-#[unsafe(no_mangle)]
-pub extern "C" fn banlothek_draw_poisson(tape: &[u64], threshold_bits: u64) -> BanlothekAnswer
+pub fn banlothek_draw_poisson(tape: &[u64], threshold_bits: u64) -> BanlothekAnswer
     ensures { DrawTells (Poisson threshold_bits) tape.now result }
 {
     told(poisson::sample_bits(tape, threshold_bits))
 }
 
-#[unsafe(no_mangle)]
-pub extern "C" fn banlothek_draw_geometric(tape: &[u64], p_bits: u64) -> BanlothekAnswer
+pub fn banlothek_draw_geometric(tape: &[u64], p_bits: u64) -> BanlothekAnswer
     ensures { DrawTells (Geometric p_bits) tape.now result }
 {
     told(geometric::sample_bits(tape, p_bits))
 }
 
-#[unsafe(no_mangle)]
-pub extern "C" fn banlothek_draw_standard_geometric(tape: &[u64]) -> BanlothekAnswer
+pub fn banlothek_draw_standard_geometric(tape: &[u64]) -> BanlothekAnswer
     ensures { DrawTells StandardGeometric tape.now result }
 {
     told(standard_geometric::sample(tape))
 }
 
-#[unsafe(no_mangle)]
-pub extern "C" fn banlothek_draw_quarters(tape: &[u64], j: u64) -> BanlothekAnswer
+pub fn banlothek_draw_quarters(tape: &[u64], j: u64) -> BanlothekAnswer
     ensures { DrawTells (Quarters «j») tape.now result }
 {
     told(quarters::sample(tape, j))
@@ -149,8 +144,7 @@ fn no_such_kind() -> BanlothekAnswer
 
 // By a kind's number, so that a kind to come needs no function of its own. The table of kinds says what it asks for; its numbers have 16 bits, as
 // in a book.
-#[unsafe(no_mangle)]
-pub extern "C" fn banlothek_deliver(
+pub fn banlothek_deliver(
     tape: &[u64],
     book: &mut [u8],
     serial: u32,
@@ -174,8 +168,7 @@ pub extern "C" fn banlothek_deliver(
     }
 }
 
-#[unsafe(no_mangle)]
-pub extern "C" fn banlothek_strike(tape: &[u64], book: &mut [u8], j: u64) -> BanlothekAnswer
+pub fn banlothek_strike(tape: &[u64], book: &mut [u8], j: u64) -> BanlothekAnswer
     ensures { StrikeTells tape.now book.old j result book.new }
 {
     match book::strike(tape, book, j) {
@@ -184,8 +177,7 @@ pub extern "C" fn banlothek_strike(tape: &[u64], book: &mut [u8], j: u64) -> Ban
     }
 }
 
-#[unsafe(no_mangle)]
-pub extern "C" fn banlothek_redraw(tape: &[u64], book: &[u8]) -> BanlothekAnswer
+pub fn banlothek_redraw(tape: &[u64], book: &[u8]) -> BanlothekAnswer
     ensures { RedrawTells tape.now book.now result }
 {
     match redraws::redraw(tape, book) {
@@ -200,8 +192,7 @@ pub extern "C" fn banlothek_redraw(tape: &[u64], book: &[u8]) -> BanlothekAnswer
 // The header has the same number, so that a caller can tell a header and a library that don't belong together.
 const VERSION: u32 = 2;
 
-#[unsafe(no_mangle)]
-pub extern "C" fn banlothek_version() -> u32
+pub fn banlothek_version() -> u32
     ensures { result ≡ version }
 {
     VERSION
