@@ -30,7 +30,7 @@
  * What these functions answer is proved of them for every input that meets this: no parameter, word or byte is wrong to pass. Each call ends,
  * and answers or refuses by one number. docs/PUBLIC.md names the contract of each.
  *
- * Link with libbanlothek.a, which `rt staticlib banlothek` writes for x86-64 Linux. It needs a memset and nothing else, keeps nothing between
+ * Link with libbanlothek.a, which `bin/library` writes for x86-64 Linux. It needs a memset and nothing else, keeps nothing between
  * calls, allocates nothing, and calls nothing back. This header is C99, and C++.
  */
 #ifndef BANLOTHEK_H

@@ -35,7 +35,7 @@ fn link(folder: &Path) {
     let archive = folder.join("libbanlothek.a");
     if !archive.is_file() {
         eprintln!("error: there is no {}", archive.display());
-        eprintln!("`rt staticlib banlothek` in the repository writes it to target/staticlib;");
+        eprintln!("the repository's bin/library writes it to target/staticlib;");
         eprintln!("if it is in another folder, set BANLOTHEK_LIB to that one");
         exit(1);
     }

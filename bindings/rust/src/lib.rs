@@ -69,7 +69,7 @@ pub const VERSION: u32 = 2;
 
 /// The version of the library that is linked. Where it isn't [`VERSION`], the two don't belong
 /// together, and nothing else may be called: what the library answers may have another size. A host
-/// says so at its start, and ends. (`rt staticlib` of the repository that this crate came with
+/// says so at its start, and ends. (`bin/library` of the repository that this crate came with
 /// writes the right one.)
 ///
 /// ```
