@@ -10,12 +10,12 @@ use native.Mathlib.Omega.{arith}
 use lib.Dec.{T, leb, eqb, leb→le, eqb→eq}
 use lib.Ieee.Fits.{and_l, and_r}
 use denote.Floats.{passes, is_true}
-use lib.ListN.{length, get_or, take, drop, drop_of_length-le}
-use lib.Seq.{take-length, drop-drop, drop-cons}
-use borrow.Author.Tests.{lt-leb, le-leb, lt-ltb, le-ltb, leb-false, ltb-false}
-use Rattle.bytes.specs.Bytes.{slice, index_of}
+use lib.ListN.{length, get_or, take, drop, length-drop, drop_of_length-le}
+use lib.Seq.{take_all, drop-drop, drop-cons}
+use borrow.Author.Tests.{lt-leb, le-leb, lt-ltb, le-ltb, leb-false, ltb-false, eq-eqb, ne_eqb}
+use Rattle.std.specs.List.{slice_range}
 use Rattle.numerals.specs.declared.Number.TheVariants.{Is, Unread}
-use Rattle.numerals.specs.Split.{up_to, past, has}
+use Rattle.numerals.specs.Split.{index_of, up_to, past, has}
 use Rattle.numerals.specs.Digits.{digit_of, are_digits, spells, continued, is_empty, number}
 use Rattle.numerals.specs.Decimal.{point, is_whole, is_decimal, whole_of, places_of, is_short, nearest_bits, decimal_bits, is_hexadecimal, float_bits}
 use Rattle.numerals.specs.Inner.{placed}
@@ -142,19 +142,40 @@ number_within b m v l e = (continued_is b m l 0 v (number_is b m v l e).1).2
 -- ---- text parted by a byte
 
 -- the slice up to the end is what is left from its start on
-pub slice_rest : (from : ℕ) (l : List ℕ) → slice from (length l) l ≡ drop from l
-unfolding slice
-slice_rest from l = rw take-length
+pub slice_rest : (from : ℕ) (l : List ℕ) → slice_range l from (length l) ≡ drop from l
+slice_rest from l = take_all (length l - from) (drop from l) (omega (arith, length-drop from l))
 
 -- the first s from a place on: what stands before it, and what after it
 module _ (s from : ℕ) (l : List ℕ) where
-  pub find_ends : take (index_of s (slice from (length l) l)) (drop from l) ≡ up_to s (drop from l)
+  pub find_ends : take (index_of s (slice_range l from (length l))) (drop from l) ≡ up_to s (drop from l)
   unfolding up_to
   find_ends = rw slice_rest
 
-  pub find_past : drop (suc (from + index_of s (slice from (length l) l))) l ≡ past s (drop from l)
+  pub find_past : drop (suc (from + index_of s (slice_range l from (length l)))) l ≡ past s (drop from l)
   unfolding past
   find_past = rw (slice_rest, drop-drop, add-suc)
+
+-- ---- a turn of the loop that looks for a byte
+
+-- a byte before the first s is passed
+pub find_turn : (s i end : ℕ) (l : List ℕ) → i < end → end ≤ length l → (get_or l i 0 ≡ s → ⊥)
+    → index_of s (slice_range l i end) ≡ suc (index_of s (slice_range l (i + 1) end))
+unfolding index_of
+find_turn s i end l h k e =
+    let n : end - i ≡ suc (end - (i + 1)) = omega arith in
+    rw (n, add-one, drop-cons l i 0 (omega arith), ne_eqb (get_or l i 0) s e) (omega arith)
+
+-- the first s is found
+pub find_here : (s i end : ℕ) (l : List ℕ) → i < end → end ≤ length l → get_or l i 0 ≡ s → index_of s (slice_range l i end) ≡ 0
+unfolding index_of
+find_here s i end l h k e =
+    let n : end - i ≡ suc (end - (i + 1)) = omega arith in
+    rw (n, drop-cons l i 0 (omega arith), eq-eqb (get_or l i 0) s e)
+
+-- at the end there is none
+pub find_none : (s i end : ℕ) (l : List ℕ) → end ≤ i → index_of s (slice_range l i end) ≡ 0
+unfolding index_of
+find_none s i end l h = let n : end - i ≡ 0 = omega arith in rw n
 
 -- nothing stands past a byte that is not there
 no_past : (s : ℕ) (l : List ℕ) → has s l ≡ false → past s l ≡ []

@@ -1,7 +1,11 @@
 -- RULES, 'Lines of pull': text parted by a byte into what stands before the first such byte and what stands after it. Once for every
 -- byte, a space or a point. Assumes nothing.
-use Rattle.std.specs.Prelude.{ℕ, suc, Bool, List, ltb, length, take, drop}
-use Rattle.bytes.specs.Bytes.{index_of}
+use Rattle.std.specs.Prelude.{ℕ, suc, Bool, List, eqb, ltb, length, take, drop}
+use Rattle.std.specs.List.{position_or_len}
+
+-- the place of the first s, or the length where there is none
+unfoldable pub index_of : ℕ → List ℕ → ℕ
+index_of s l = position_or_len (λ x. eqb x s) l
 
 -- the bytes before the first s, or all where there is none
 unfoldable pub up_to : ℕ → List ℕ → List ℕ

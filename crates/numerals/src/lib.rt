@@ -1,13 +1,13 @@
 // Numbers read from text, in ASCII: whole numbers, decimals and the bits of a float.
 #![tactic(auto)]
 
-ghost use Rattle.std.specs.Prelude.{◌≡◌, ◌^◌, ◌≤◌, ◌<◌};
+ghost use Rattle.std.specs.Prelude.{◌≡◌, ◌+◌, ◌^◌, ◌≤◌, ◌<◌, length};
+ghost use Rattle.std.specs.List.{slice_range};
 ghost use Rattle.numerals.specs.Digits.{continued, digit_of};
 ghost use Rattle.numerals.specs.Digits.{number as Digits·number};
 ghost use Rattle.numerals.specs.Decimal.{decimal_bits, float_bits, is_hexadecimal, nearest_bits};
 ghost use Rattle.numerals.specs.Inner.{placed};
-
-use bytes::scan::find;
+ghost use Rattle.numerals.specs.Split.{index_of};
 
 // What a text is read as: a number, or the bits of a float; or that it is neither.
 #[derive(Clone, Copy)]
@@ -21,6 +21,21 @@ const MOST_WHOLE: u64 = 999_999_999_999_999;
 
 // The most digits after a decimal's point.
 const MOST_PLACES: usize = 15;
+
+// The place of the first such byte from `from` on, or `end` where there is none before it.
+pub fn find(text: &[u8], from: usize, end: usize, byte: u8) -> usize
+    requires { (from ≤ end) × (end ≤ length text.now) }
+    ensures { (result ≡ from + index_of byte (slice_range text.now from end)) × (result ≤ end) }
+{
+    let mut i = from;
+    while i < end {
+        if text[i] == byte {
+            return i;
+        }
+        i += 1;
+    }
+    end
+}
 
 fn widen(byte: u8) -> u64
     ensures { result ≡ byte }
