@@ -29,9 +29,7 @@ banlothek_answer rust_new_poisson(const uint64_t *tape, size_t words, uint64_t l
 banlothek_answer rust_draw_geometric(const uint64_t *tape, size_t words, uint64_t p_bits);
 banlothek_answer rust_draw_standard_geometric(const uint64_t *tape, size_t words);
 uint64_t rust_kept(const uint64_t *kept, size_t words);
-banlothek_answer none_draw_tray(const uint64_t *tape, size_t words, uint64_t a, uint64_t b, uint64_t c);
-banlothek_answer none_draw_one(const uint64_t *tape, size_t words, uint64_t a);
-banlothek_answer none_draw_plain(const uint64_t *tape, size_t words);
+banlothek_answer none_draw(const uint64_t *tape, size_t words, uint64_t a, uint64_t b, uint64_t c);
 banlothek_answer none_call(const uint64_t *tape, size_t words, uint8_t *book, size_t bytes, uint64_t a);
 
 enum { WORDS = 4096, STEP = 7, KEPT_WORDS = 256, ENTRY = 48 };
@@ -69,8 +67,7 @@ struct row {
 /* No kind of a request: Poisson::new and a draw, for the Rust alone, where x is lambda. */
 enum { NEW_POISSON = 1000 };
 
-/* Thresholds are e^-lambda. Of a mean in quarters N is j, and x is the threshold that the Rust is handed. */
-#define TWO_TO_52 4503599627370496.0
+/* Thresholds are e^-lambda. */
 static const struct row rows[] = {
     {"tray-60", 1, 60, 24, 7, 0},
     {"tray-1000", 1, 1000, 60, 40, 0},
@@ -87,77 +84,48 @@ static const struct row rows[] = {
     {"p-0.01", 3, 0, 0, 0, 0.01},
     {"p-2^-20", 3, 0, 0, 0, 1.0 / 1048576},
     {"standard", 4, 0, 0, 0, 0},
-    {"quarters-1", 5, 1, 0, 0, 3507406916436229 / TWO_TO_52},
-    {"quarters-16", 5, 16, 0, 0, 82486304474355 / TWO_TO_52},
-    {"quarters-44", 5, 44, 0, 0, 75217773455 / TWO_TO_52},
 };
 
-/* One draw of a row. A side's function is looked up once for all draws of a run, so that a choice among kinds is no part of what is counted. */
-typedef banlothek_answer draw_of(const struct row *r, const uint64_t *words, size_t n);
-
-static banlothek_answer tray_here(const struct row *r, const uint64_t *words, size_t n) {
-    return banlothek_draw_hypergeometric(words, n, r->N, r->K, r->n);
-}
-static banlothek_answer poisson_here(const struct row *r, const uint64_t *words, size_t n) {
-    return banlothek_draw_poisson(words, n, bits(r->x));
-}
-static banlothek_answer geometric_here(const struct row *r, const uint64_t *words, size_t n) {
-    return banlothek_draw_geometric(words, n, bits(r->x));
-}
-static banlothek_answer standard_here(const struct row *r, const uint64_t *words, size_t n) {
-    (void)r;
-    return banlothek_draw_standard_geometric(words, n);
-}
-static banlothek_answer quarters_here(const struct row *r, const uint64_t *words, size_t n) {
-    return banlothek_draw_quarters(words, n, r->N);
+static banlothek_answer draw_here(const struct row *r, const uint64_t *words, size_t n) {
+    switch (r->kind) {
+    case 1:
+        return banlothek_draw_hypergeometric(words, n, r->N, r->K, r->n);
+    case 2:
+        return banlothek_draw_poisson(words, n, bits(r->x));
+    case 3:
+        return banlothek_draw_geometric(words, n, bits(r->x));
+    default:
+        return banlothek_draw_standard_geometric(words, n);
+    }
 }
 
-static banlothek_answer tray_rust(const struct row *r, const uint64_t *words, size_t n) {
-    return rust_draw_hypergeometric(words, n, r->N, r->K, r->n);
-}
-static banlothek_answer poisson_rust(const struct row *r, const uint64_t *words, size_t n) {
-    return rust_draw_poisson(words, n, bits(r->x));
-}
-static banlothek_answer geometric_rust(const struct row *r, const uint64_t *words, size_t n) {
-    return rust_draw_geometric(words, n, bits(r->x));
-}
-static banlothek_answer standard_rust(const struct row *r, const uint64_t *words, size_t n) {
-    (void)r;
-    return rust_draw_standard_geometric(words, n);
-}
-static banlothek_answer new_rust(const struct row *r, const uint64_t *words, size_t n) {
-    return rust_new_poisson(words, n, bits(r->x));
+static banlothek_answer draw_rust(const struct row *r, const uint64_t *words, size_t n) {
+    switch (r->kind) {
+    case 1:
+        return rust_draw_hypergeometric(words, n, r->N, r->K, r->n);
+    case 2:
+        return rust_draw_poisson(words, n, bits(r->x));
+    case 3:
+        return rust_draw_geometric(words, n, bits(r->x));
+    case 4:
+        return rust_draw_standard_geometric(words, n);
+    default:
+        return rust_new_poisson(words, n, bits(r->x));
+    }
 }
 
-static banlothek_answer tray_none(const struct row *r, const uint64_t *words, size_t n) {
-    return none_draw_tray(words, n, r->N, r->K, r->n);
-}
-static banlothek_answer one_none(const struct row *r, const uint64_t *words, size_t n) {
-    return none_draw_one(words, n, bits(r->x));
-}
-static banlothek_answer plain_none(const struct row *r, const uint64_t *words, size_t n) {
-    (void)r;
-    return none_draw_plain(words, n);
-}
-
-/* By a kind's number; the Rust draws a mean by the threshold that it is handed. */
-static draw_of *const here[] = {0, tray_here, poisson_here, geometric_here, standard_here, quarters_here};
-static draw_of *const rust[] = {0, tray_rust, poisson_rust, geometric_rust, standard_rust, poisson_rust};
-static draw_of *const none[] = {0, tray_none, one_none, one_none, plain_none, one_none};
-
-static draw_of *drawn_by(const struct row *r, enum side side) {
-    if (r->kind == NEW_POISSON)
-        return side == NONE ? one_none : new_rust;
-    return side == NONE ? none[r->kind] : side == RUST ? rust[r->kind] : here[r->kind];
+static banlothek_answer draw(const struct row *r, enum side side, const uint64_t *words, size_t n) {
+    if (side == NONE)
+        return none_draw(words, n, r->N, r->K, r->n);
+    return side == RUST ? draw_rust(r, words, n) : draw_here(r, words, n);
 }
 
 /* Draw i begins at a place of its own, the same on every side. */
 static uint64_t draw_many(const struct row *r, enum side side, long times) {
-    draw_of *draw = drawn_by(r, side);
     uint64_t sum = 0;
     for (long i = 0; i < times; i++) {
         size_t at = (size_t)i * STEP % (WORDS / 2);
-        banlothek_answer a = draw(r, tape + at, WORDS - at);
+        banlothek_answer a = draw(r, side, tape + at, WORDS - at);
         sum += a.refusal ? 1000000 : a.count + a.used;
     }
     return sum;

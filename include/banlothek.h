@@ -47,7 +47,7 @@ extern "C" {
  * Which functions these are: a number that grows whenever a function, a kind, a refusal or a field comes or changes. The library has its own;
  * where the two differ, header and library don't belong together, and nothing else may be called: the struct below may have another size.
  */
-#define BANLOTHEK_VERSION 2
+#define BANLOTHEK_VERSION 1
 uint32_t banlothek_version(void);
 
 /*
@@ -81,7 +81,6 @@ enum {
     BANLOTHEK_BOOK_FULL = 15,            /* the entry is longer than the room left */
     BANLOTHEK_STRIKE_TOO_MANY = 16,      /* j is above the number of entries */
     BANLOTHEK_REDRAW_DIFFERS = 17,       /* an entry is not what its request draws; `serial` names the lowest */
-    BANLOTHEK_MEAN_OUTSIDE = 18,         /* j is not in 1 to 47 */
     BANLOTHEK_NO_SUCH_KIND = 100         /* of banlothek_deliver alone: `kind` is no kind's number */
 };
 
@@ -90,8 +89,7 @@ enum {
     BANLOTHEK_HYPERGEOMETRIC = 1,     /* N, K, n */
     BANLOTHEK_POISSON = 2,            /* the bits of T */
     BANLOTHEK_GEOMETRIC = 3,          /* the bits of p */
-    BANLOTHEK_STANDARD_GEOMETRIC = 4, /* no parameter */
-    BANLOTHEK_QUARTERS = 5            /* j */
+    BANLOTHEK_STANDARD_GEOMETRIC = 4  /* no parameter */
 };
 
 /*
@@ -110,12 +108,6 @@ banlothek_answer banlothek_draw_geometric(const uint64_t *tape, size_t words, ui
 
 /* The same with p one half, by the leading zeros of words. Refusals 1, 10. */
 banlothek_answer banlothek_draw_standard_geometric(const uint64_t *tape, size_t words);
-
-/*
- * Poisson by its mean, j quarters: j from 1 to 47. Its threshold is from a list, and no float is handed in. Refusals 1, 18, 10. (With the bits of
- * the double exp(-j / 4.0), banlothek_draw_poisson draws otherwise over a few words: docs/DIFFERENCES.md, entry eleven.)
- */
-banlothek_answer banlothek_draw_quarters(const uint64_t *tape, size_t words, uint64_t j);
 
 /*
  * Delivers into a book: at most 65,536 bytes, all zero before the first call, and written by these functions alone. `kind` is one of the
@@ -148,11 +140,6 @@ static inline banlothek_answer banlothek_deliver_geometric(const uint64_t *tape,
 static inline banlothek_answer banlothek_deliver_standard_geometric(const uint64_t *tape, size_t words, uint8_t *book, size_t bytes,
                                                                     uint32_t serial) {
     return banlothek_deliver(tape, words, book, bytes, serial, BANLOTHEK_STANDARD_GEOMETRIC, 0, 0, 0);
-}
-
-static inline banlothek_answer banlothek_deliver_quarters(const uint64_t *tape, size_t words, uint8_t *book, size_t bytes, uint32_t serial,
-                                                          uint64_t j) {
-    return banlothek_deliver(tape, words, book, bytes, serial, BANLOTHEK_QUARTERS, j, 0, 0);
 }
 
 /*

@@ -1,6 +1,5 @@
 //! A case, the entry that it is marked with, and how cases are written. README.md has the format.
 
-use crate::means;
 use std::io::{self, Write};
 
 /// The words of a block.
@@ -20,21 +19,17 @@ pub enum Kind {
     Poisson = 2,
     Geometric = 3,
     Standard = 4,
-    Quarters = 5,
     Kept = 1_001,
     Fraction = 1_002,
-    Mean = 1_003,
 }
 
 /// The kinds in the order in which they are reported, each with its name there.
-const KINDS: [(Kind, &str); 8] = [
+const KINDS: [(Kind, &str); 6] = [
     (Kind::Hypergeometric, "hypergeometric"),
     (Kind::Kept, "kept"),
     (Kind::Poisson, "poisson"),
     (Kind::Geometric, "geometric"),
     (Kind::Standard, "standard"),
-    (Kind::Quarters, "quarters"),
-    (Kind::Mean, "mean"),
     (Kind::Fraction, "fraction"),
 ];
 
@@ -60,18 +55,16 @@ pub enum Entry {
     Threshold = 5,
     Cap = 9,
     Rejection = 10,
-    Mean = 11,
 }
 
 /// The entries in the order in which they are reported.
-const ENTRIES: [Entry; 7] = [
+const ENTRIES: [Entry; 6] = [
     Entry::None,
     Entry::Support,
     Entry::LargeK,
     Entry::Threshold,
     Entry::Cap,
     Entry::Rejection,
-    Entry::Mean,
 ];
 
 /// A request, the tape, and what the Rust did. Of a kept tray `tape` has pairs: a word, and the
@@ -98,7 +91,6 @@ impl Case {
             (_, Act::ChoseLargeK) => Entry::LargeK,
             (Kind::Hypergeometric, Act::Drew) => support_entry(self.parameters, self.count),
             (Kind::Poisson, _) => threshold_entry(self.parameters),
-            (Kind::Mean, _) => means::entry(self),
             _ => Entry::None,
         }
     }

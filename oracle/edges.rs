@@ -238,7 +238,7 @@ fn large_trays() -> Vec<Case> {
     cases
 }
 
-/// Draws of kinds 1 to 4 over their words, and over each shorter tape.
+/// Draws of every kind over their words, and over each shorter tape.
 fn tape_ends() -> Vec<Case> {
     let product = [TOP, THREE_QUARTERS, THREE_QUARTERS, HALF, HALF, STEP];
     let found = [STEP, STEP, HALF, 3, TOP, 2, TOP, 1, 0];

@@ -13,7 +13,6 @@ mod geometric;
 mod hypergeometric;
 mod judge;
 mod lean;
-mod means;
 mod poisson;
 mod powers;
 mod random;
@@ -30,13 +29,12 @@ use std::os::fd::AsFd;
 use std::process::ExitCode;
 
 const USAGE: &str =
-    "usage: oracle random|lambdas|means SEED MILLIONS | oracle stored";
+    "usage: oracle random SEED MILLIONS | oracle lambdas SEED MILLIONS | oracle stored";
 
 /// What the arguments ask for.
 enum Command {
     Random { seed: u64, draws: u64 },
     Lambdas { seed: u64, draws: u64 },
-    Means { seed: u64, draws: u64 },
     Stored,
 }
 
@@ -48,10 +46,6 @@ fn command(arguments: &[String]) -> Option<Command> {
             draws: draws_of(millions)?,
         }),
         ["lambdas", seed, millions] => Some(Command::Lambdas {
-            seed: seed.parse().ok()?,
-            draws: draws_of(millions)?,
-        }),
-        ["means", seed, millions] => Some(Command::Means {
             seed: seed.parse().ok()?,
             draws: draws_of(millions)?,
         }),
@@ -75,7 +69,6 @@ fn obey(command: Command) -> io::Result<(String, bool)> {
     match command {
         Command::Random { seed, draws } => Ok((random::random(out, seed, draws)?, true)),
         Command::Lambdas { seed, draws } => random::lambdas(out, seed, draws),
-        Command::Means { seed, draws } => Ok((means::means(out, seed, draws)?, true)),
         Command::Stored => Ok((stored::stored(out)?, true)),
     }
 }

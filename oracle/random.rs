@@ -45,7 +45,7 @@ fn choose(chance: &mut Chance) -> Choice {
     unreachable!("the roll is below the sum of the weights")
 }
 
-/// Writes so many draws, kinds 1 to 4 mixed. Gives the totals.
+/// Writes so many draws, all kinds mixed. Gives the totals.
 pub fn random(out: impl Write, seed: u64, draws: u64) -> io::Result<String> {
     let mut seeds = Chance::new(seed);
     let edges = rates::edges();

@@ -6,7 +6,6 @@ use crate::cases::{Act, Case, Entry, Kind, Writer, CAP};
 use crate::chance::Chance;
 use crate::judge::{over_tape, Rate, Standard, Threshold, Tray};
 use crate::lean::{beside, half_to, NAN, NEGATIVE_NAN};
-use crate::means::{Listed, Worked, MOST};
 use crate::{edges, rates, thresholds, trays};
 use std::io::{self, Write};
 
@@ -37,7 +36,6 @@ pub fn stored(out: impl Write) -> io::Result<String> {
         over_cap(),
         random_cases(),
         gate_rows(),
-        means(),
         fractions(),
     ];
     for case in parts.iter().flatten() {
@@ -216,7 +214,7 @@ fn over_cap() -> Vec<Case> {
     cases
 }
 
-/// Random cases of kinds 1 to 4, with short tapes.
+/// Random cases of every kind, with short tapes.
 fn random_cases() -> Vec<Case> {
     const LONGEST: usize = 12;
     let chance = &mut Chance::new(20);
@@ -265,22 +263,6 @@ fn gate_rows() -> Vec<Case> {
     let words = [0x1000_0000_0000_0000, 0xf000_0000_0000_0000];
     cases.extend(words.map(|word| tray([60, 24, 7], &[word])));
     cases.push(trays::kept_over(&Tray::new([60, 24, 7]), &words));
-    cases
-}
-
-/// Every mean in quarters over words at and beside its threshold, by the list and by another
-/// arithmetic; and tapes that end, or go on.
-fn means() -> Vec<Case> {
-    let mut cases = Vec::new();
-    for j in 1..=MOST {
-        let (listed, worked) = (Listed::new(j), Worked::anywhere(j));
-        for word in listed.words_beside() {
-            cases.push(over_tape(&listed, &[word, 0]));
-            cases.push(over_tape(&worked, &[word, 0]));
-        }
-        cases.push(over_tape(&listed, &[THREE_QUARTERS; 50]));
-        cases.push(over_tape(&listed, &[]));
-    }
     cases
 }
 

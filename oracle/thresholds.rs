@@ -105,7 +105,7 @@ fn strange_bits(chance: &mut Chance) -> u64 {
 }
 
 /// A word that brings the product to the threshold or beside it, or keeps it high, or ends it.
-pub fn leaning_word(chance: &mut Chance, threshold: f64, seen: &[u64]) -> u64 {
+fn leaning_word(chance: &mut Chance, threshold: f64, seen: &[u64]) -> u64 {
     match chance.below(16) {
         0..=4 => chance.word(),
         5..=8 => lean::high_word(chance),

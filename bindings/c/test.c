@@ -121,26 +121,6 @@ static void standard(void) {
     refused("a tape too long", banlothek_draw_standard_geometric(long_tape, TOO_MANY_WORDS), BANLOTHEK_TAPE_TOO_LONG, 0);
 }
 
-/* Every j that is no mean, and the word over which the list's threshold for j = 1 and exp's part. */
-static const uint64_t no_means[] = {0, 48, 0x100000004u, TOP, LAST};
-static const uint64_t beside[] = {0xc75f7cf564105800u, 0};
-#define EXP_QUARTER 0x3fe8ebef9eac820bu
-
-static void quarters(void) {
-    const uint64_t words[] = {THREE_QUARTERS, THREE_QUARTERS, THREE_QUARTERS};
-    expect("j = 1", banlothek_draw_quarters(words, 3, 1), 0, 1, 0);
-    expect("j = 3", banlothek_draw_quarters(words, 3, 3), 0, 3, 2);
-    expect("above the threshold of the list", banlothek_draw_quarters(beside, 2, 1), 0, 2, 1);
-    expect("and not above exp's", banlothek_draw_poisson(beside, 2, EXP_QUARTER), 0, 1, 0);
-    refused("j = 47 goes on", banlothek_draw_quarters(words, 3, 47), BANLOTHEK_EXHAUSTED, 0);
-    refused("no word", banlothek_draw_quarters(words, 0, 1), BANLOTHEK_EXHAUSTED, 0);
-    for (size_t i = 0; i < sizeof no_means / sizeof *no_means; i++) {
-        refused("no mean", banlothek_draw_quarters(words, 3, no_means[i]), BANLOTHEK_MEAN_OUTSIDE, 0);
-        refused("no mean, no word", banlothek_draw_quarters(words, 0, no_means[i]), BANLOTHEK_MEAN_OUTSIDE, 0);
-        refused("a tape too long", banlothek_draw_quarters(long_tape, TOO_MANY_WORDS, no_means[i]), BANLOTHEK_TAPE_TOO_LONG, 0);
-    }
-}
-
 /* ---- the book */
 
 /* Of the first seven words one, three, two and one are for serials 1 to 4, none is left; the eighth is for one more. */
@@ -201,23 +181,6 @@ static void standard_delivered(void) {
     same("the book is what it was before", kept, book, sizeof book);
 }
 
-/* A mean in quarters over the full book, and with room for one. */
-static void quarters_delivered(void) {
-    refused_and_kept("2 as a mean", banlothek_deliver_quarters(tape, WORDS, book, ROOM, 2, HALF), BANLOTHEK_SERIAL_REUSED);
-    refused_and_kept("a mean ahead", banlothek_deliver_quarters(tape, WORDS, book, ROOM, 6, 3), BANLOTHEK_SERIAL_AHEAD);
-    refused_and_kept("full: a mean", banlothek_deliver_quarters(tape, WORDS, book, ROOM + 31, 5, 3), BANLOTHEK_BOOK_FULL);
-    refused_and_kept("no word left: a mean", banlothek_deliver_quarters(tape, WORDS, book, ROOM + 32, 5, 3), BANLOTHEK_EXHAUSTED);
-    expect("a mean", banlothek_deliver_quarters(tape, WORDS + 1, book, ROOM + 32, 5, 3), 0, 1, 0);
-    expect("its copy", banlothek_deliver_quarters(tape, WORDS + 1, book, ROOM + 32, 5, 3), 1, 1, 0);
-    refused("5 of another mean", banlothek_deliver_quarters(tape, WORDS + 1, book, ROOM + 32, 5, 4), BANLOTHEK_SERIAL_REUSED, 0);
-    expect("drawn again", banlothek_redraw(tape, WORDS + 1, book, ROOM + 32), 0, 0, 5);
-    book[ROOM + 24] = 48; /* its parameter: no mean, in a book that is sound all the same */
-    expect("a copy of what is booked", banlothek_deliver_quarters(tape, WORDS + 1, book, ROOM + 32, 5, 48), 1, 1, 0);
-    refused("which isn't drawn again", banlothek_redraw(tape, WORDS + 1, book, ROOM + 32), BANLOTHEK_REDRAW_DIFFERS, 5);
-    expect("struck", banlothek_strike(tape, WORDS + 1, book, ROOM + 32, 1), 0, 0, 4);
-    same("the book is what it was before", kept, book, sizeof book);
-}
-
 /* With room for an entry, and in a full book at the tape's end: parameters are refused before 15 and 10. */
 static void parameters(size_t n) {
     refused_and_kept("delivered K > N", banlothek_deliver_hypergeometric(tape, WORDS, book, n, 5, 10, 11, 12),
@@ -233,8 +196,6 @@ static void parameters(size_t n) {
     refused_and_kept("delivered a p above 1", banlothek_deliver_geometric(tape, WORDS, book, n, 5, ABOVE_ONE),
                      BANLOTHEK_INVALID_PROBABILITY);
     refused_and_kept("delivered p", banlothek_deliver_geometric(tape, WORDS, book, n, 5, P_2_32), BANLOTHEK_TOO_RARE);
-    for (size_t i = 0; i < sizeof no_means / sizeof *no_means; i++)
-        refused_and_kept("delivered j", banlothek_deliver_quarters(tape, WORDS, book, n, 5, no_means[i]), BANLOTHEK_MEAN_OUTSIDE);
 }
 
 /* Every call over a tape or a book that is too long, and over a book that is damaged. */
@@ -244,7 +205,6 @@ static void limits(const char *what, const uint64_t *words, size_t n, size_t byt
     refused_and_kept(what, banlothek_deliver_poisson(words, n, book, bytes, 1, HALF), number);
     refused_and_kept(what, banlothek_deliver_geometric(words, n, book, bytes, 1, HALF), number);
     refused_and_kept(what, banlothek_deliver_standard_geometric(words, n, book, bytes, 1), number);
-    refused_and_kept(what, banlothek_deliver_quarters(words, n, book, bytes, 1, 3), number);
     refused_and_kept(what, banlothek_strike(words, n, book, bytes, 0), number);
     refused_and_kept(what, banlothek_redraw(words, n, book, bytes), number);
 }
@@ -291,49 +251,46 @@ static void redraw_and_strike(void) {
 
 /* ---- deliveries by number */
 
-/* The bytes of an entry of each kind. */
-enum { EACH = 48 + 32 + 32 + 24 + 32 };
-
 /* Each kind by its number, with parameters that it doesn't have: they are not looked at, so that each call but the first of a kind is a copy. */
 static void by_number(void) {
-    const uint64_t own[5][3] = {{50, 35, 10}, {HALF, 0, 0}, {P_75, 0, 0}, {0, 0, 0}, {3, 0, 0}};
-    const uint32_t parameters[5] = {3, 1, 1, 0, 1}, used[5] = {1, 3, 2, 1, 1};
-    const uint64_t count[5] = {10, 2, 1, 63, 0};
+    const uint64_t own[4][3] = {{50, 35, 10}, {HALF, 0, 0}, {P_75, 0, 0}, {0, 0, 0}};
+    const uint32_t parameters[4] = {3, 1, 1, 0}, used[4] = {1, 3, 2, 1};
+    const uint64_t count[4] = {10, 2, 1, 63};
     memset(book, 0, sizeof book);
-    for (uint32_t kind = 1; kind <= 5; kind++) {
+    for (uint32_t kind = 1; kind <= 4; kind++) {
         const uint64_t *p = own[kind - 1];
-        expect("by number", banlothek_deliver(tape, WORDS + 1, book, EACH, kind, kind, p[0], p[1], p[2]), 0, used[kind - 1], count[kind - 1]);
+        expect("by number", banlothek_deliver(tape, WORDS + 1, book, ROOM, kind, kind, p[0], p[1], p[2]), 0, used[kind - 1], count[kind - 1]);
         keep();
         for (uint32_t past = parameters[kind - 1]; past < 3; past++) {
             uint64_t with[3] = {p[0], p[1], p[2]};
             with[past] = LAST;
-            expect("past its parameters", banlothek_deliver(tape, WORDS + 1, book, EACH, kind, kind, with[0], with[1], with[2]), 1,
+            expect("past its parameters", banlothek_deliver(tape, WORDS + 1, book, ROOM, kind, kind, with[0], with[1], with[2]), 1,
                    used[kind - 1], count[kind - 1]);
         }
         for (uint32_t within = 0; within < parameters[kind - 1]; within++) {
             uint64_t with[3] = {p[0], p[1], p[2]};
             with[within]++;
-            refused_and_kept("within its parameters", banlothek_deliver(tape, WORDS + 1, book, EACH, kind, kind, with[0], with[1], with[2]),
+            refused_and_kept("within its parameters", banlothek_deliver(tape, WORDS + 1, book, ROOM, kind, kind, with[0], with[1], with[2]),
                              BANLOTHEK_SERIAL_REUSED);
         }
-        same("its entry has its kind", (const uint8_t[2]){(uint8_t)kind, 0}, book + (size_t[5]){0, 48, 80, 112, 136}[kind - 1] + 2, 2);
+        same("its entry has its kind", (const uint8_t[2]){(uint8_t)kind, 0}, book + (size_t[4]){0, 48, 80, 112}[kind - 1] + 2, 2);
     }
-    expect("drawn again", banlothek_redraw(tape, WORDS + 1, book, EACH), 0, 0, 5);
+    expect("drawn again", banlothek_redraw(tape, WORDS + 1, book, ROOM), 0, 0, 4);
 }
 
-/* A number that is no kind's, over a book where it would be next, a copy and ahead, and where everything else would refuse too. 6 is here until
+/* A number that is no kind's, over a book where it would be next, a copy and ahead, and where everything else would refuse too. 5 is here until
  * it is a kind. */
 static void no_such_kind(void) {
-    const uint32_t none[] = {0, 6, 255, 256, 65535, 65536, 65537, 65540, 0x7fffffff, 0x80000001, 0xffffffff};
+    const uint32_t none[] = {0, 5, 255, 256, 65535, 65536, 65537, 65540, 0x7fffffff, 0x80000001, 0xffffffff};
     keep();
     for (size_t i = 0; i < sizeof none / sizeof *none; i++) {
         const uint32_t kind = none[i];
         for (uint32_t serial = 0; serial <= 6; serial++)
-            refused_and_kept("no kind", banlothek_deliver(tape, WORDS + 1, book, EACH, serial, kind, 50, 35, 10), BANLOTHEK_NO_SUCH_KIND);
+            refused_and_kept("no kind", banlothek_deliver(tape, WORDS + 1, book, ROOM, serial, kind, 50, 35, 10), BANLOTHEK_NO_SUCH_KIND);
         refused_and_kept("no kind with 11", banlothek_deliver(tape, WORDS, book, MOST_BYTES + 1, 1, kind, 50, 35, 10), BANLOTHEK_NO_SUCH_KIND);
-        refused_and_kept("no kind with 1", banlothek_deliver(long_tape, TOO_MANY_WORDS, book, EACH, 1, kind, LAST, LAST, LAST),
+        refused_and_kept("no kind with 1", banlothek_deliver(long_tape, TOO_MANY_WORDS, book, ROOM, 1, kind, LAST, LAST, LAST),
                          BANLOTHEK_NO_SUCH_KIND);
-        refused_and_kept("no kind with 12", banlothek_deliver(tape, 1, book, EACH, 1, kind, 0, 0, 0), BANLOTHEK_NO_SUCH_KIND);
+        refused_and_kept("no kind with 12", banlothek_deliver(tape, 1, book, ROOM, 1, kind, 0, 0, 0), BANLOTHEK_NO_SUCH_KIND);
         refused_and_kept("no kind with 15", banlothek_deliver(tape, WORDS, book, 0, 1, kind, 0, 0, 0), BANLOTHEK_NO_SUCH_KIND);
     }
 }
@@ -376,7 +333,7 @@ static void worked(void) {
     refused("a book of no byte is full", banlothek_deliver_geometric(one, 1, book, 0, 1, P_75), BANLOTHEK_BOOK_FULL, 0);
 }
 
-/* The second: kinds 1 to 4, copies and a strike; no two fields of an entry are alike but a tray's kind and used. */
+/* The second: every kind, copies and a strike; no two fields of an entry are alike but a tray's kind and used. */
 static void worked_second(void) {
     const uint64_t words[17] = {
         0x1000000000000000u, 0x4000000000000000u, 0xa000000000000000u, 0x0123456789abcdefu, 0x8000000000000000u, 0x0f1e2d3c4b5a6976u,
@@ -406,12 +363,10 @@ int main(void) {
     poisson();
     geometric();
     standard();
-    quarters();
     fill();
     copies();
     ahead_and_full();
     standard_delivered();
-    quarters_delivered();
     parameters(MOST_BYTES);
     parameters(ROOM);
     limits("a tape of 1,048,577 words", long_tape, TOO_MANY_WORDS, ROOM, BANLOTHEK_TAPE_TOO_LONG);

@@ -65,7 +65,7 @@ use std::fmt;
 /// The version of the header that this wrapper was written from.
 ///
 /// It grows whenever a function, a kind, a refusal or a field comes or changes.
-pub const VERSION: u32 = 2;
+pub const VERSION: u32 = 1;
 
 /// The version of the library that is linked. Where it isn't [`VERSION`], the two don't belong
 /// together, and nothing else may be called: what the library answers may have another size. A host
@@ -118,11 +118,6 @@ pub enum Request {
     },
     /// The same with p one half, by the leading zeros of words.
     StandardGeometric,
-    /// Poisson, by its mean in quarters.
-    Quarters {
-        /// The mean is j / 4.
-        j: u64,
-    },
 }
 
 impl Request {
@@ -134,7 +129,6 @@ impl Request {
             Request::Poisson { threshold } => (2, [threshold.to_bits(), 0, 0]),
             Request::Geometric { p } => (3, [p.to_bits(), 0, 0]),
             Request::StandardGeometric => (4, [0, 0, 0]),
-            Request::Quarters { j } => (5, [j, 0, 0]),
         }
     }
 }
@@ -234,8 +228,6 @@ pub enum Refusal {
         /// The lowest serial of such an entry.
         serial: u32,
     },
-    /// 18: j is not in 1 to 47.
-    MeanOutside,
     /// 100: the number is no kind that the library knows ([`deliver_kind`]).
     NoSuchKind,
     /// Any other number, which no library of this version gives.
@@ -274,7 +266,6 @@ impl Refusal {
             Refusal::BookFull => 15,
             Refusal::StrikeTooMany => 16,
             Refusal::RedrawDiffers { .. } => 17,
-            Refusal::MeanOutside => 18,
             Refusal::NoSuchKind => 100,
             Refusal::Unknown { number } => number,
         }
@@ -300,7 +291,6 @@ impl Refusal {
             15 => Refusal::BookFull,
             16 => Refusal::StrikeTooMany,
             17 => Refusal::RedrawDiffers { serial },
-            18 => Refusal::MeanOutside,
             100 => Refusal::NoSuchKind,
             _ => Refusal::Unknown { number },
         }
@@ -326,7 +316,6 @@ impl Refusal {
             Refusal::BookFull => "the entry is longer than the room left",
             Refusal::StrikeTooMany => "the strike is of more entries than there are",
             Refusal::RedrawDiffers { .. } => "is not what its request draws",
-            Refusal::MeanOutside => "j is not in 1 to 47",
             Refusal::NoSuchKind => "the library does not know this kind of draw",
             Refusal::Unknown { .. } => "a refusal that this wrapper does not know",
         }
@@ -350,8 +339,7 @@ impl Error for Refusal {}
 /// An accepted draw looks at the words that it reports as used and at no others.
 ///
 /// The order of refusals is 1, those of the request, 10. Those of a request: 3, 4, 5, 6, 2
-/// (hypergeometric), 7 (Poisson), 8, 9 (geometric), none (standard geometric), 18
-/// (quarters).
+/// (hypergeometric), 7 (Poisson), 8, 9 (geometric), none (standard geometric).
 ///
 /// ```
 /// use banlothek::{draw, Refusal, Request};
@@ -381,7 +369,6 @@ pub fn draw(tape: &[u64], request: Request) -> Result<Drawn, Refusal> {
             }
             Request::Geometric { p } => banlothek_draw_geometric(tape, words, p.to_bits()),
             Request::StandardGeometric => banlothek_draw_standard_geometric(tape, words),
-            Request::Quarters { j } => banlothek_draw_quarters(tape, words, j),
         }
     };
     answer.accepted().map(Answer::drawn)
@@ -565,7 +552,6 @@ extern "C" {
     fn banlothek_draw_poisson(tape: *const u64, words: usize, threshold_bits: u64) -> Answer;
     fn banlothek_draw_geometric(tape: *const u64, words: usize, p_bits: u64) -> Answer;
     fn banlothek_draw_standard_geometric(tape: *const u64, words: usize) -> Answer;
-    fn banlothek_draw_quarters(tape: *const u64, words: usize, j: u64) -> Answer;
     fn banlothek_deliver(
         tape: *const u64,
         words: usize,
@@ -623,7 +609,7 @@ mod tests {
 
     #[test]
     fn every_number_of_the_header_has_its_name() {
-        for number in (1..=18).chain([100]) {
+        for number in (1..=17).chain([100]) {
             let refusal = refused(number, 4).accepted().err().unwrap();
             assert_eq!(refusal.number(), number);
             assert_ne!(refusal, Refusal::Unknown { number });
@@ -642,7 +628,7 @@ mod tests {
     /// Whether this wrapper knows the number or not: what comes out is a value that has it.
     #[test]
     fn any_number_is_a_refusal_of_that_number() {
-        for number in [19, 99, 101, 4_000_000_000, u32::MAX] {
+        for number in [18, 99, 101, 4_000_000_000, u32::MAX] {
             let refusal = refused(number, 4).accepted().err().unwrap();
             assert_eq!(refusal.number(), number);
             let said = refusal.to_string();
@@ -672,7 +658,6 @@ mod tests {
             assert_eq!(Request::Geometric { p }.parts(), (3, [bits, 0, 0]));
         }
         assert_eq!(Request::StandardGeometric.parts(), (4, [0, 0, 0]));
-        assert_eq!(Request::Quarters { j: u64::MAX }.parts(), (5, [u64::MAX, 0, 0]));
     }
 
     /// What a request of a later wrapper meets in this library, whatever else is wrong with it.

@@ -2,7 +2,7 @@
 //! refusal changes no byte.
 
 use banlothek::Refusal::*;
-use banlothek::Request::{Geometric, Poisson, Quarters, StandardGeometric};
+use banlothek::Request::{Geometric, Poisson, StandardGeometric};
 use banlothek::{redraw, strike, version, Refusal, Request, VERSION};
 
 const TOP: u64 = 1 << 63;
@@ -147,40 +147,10 @@ fn standard_geometric_draws_and_refusals() {
     assert_eq!(draw(&[], StandardGeometric), Err(Exhausted));
 }
 
-/// Every j that is no mean.
-const NO_MEANS: [u64; 5] = [0, 48, (1 << 32) + 4, TOP, LAST];
-
-#[test]
-fn quarters_draws_and_refusals() {
-    let words = [THREE_QUARTERS; 3];
-    assert_eq!(draw(&words, Quarters { j: 1 }), drawn(0, 1));
-    assert_eq!(draw(&words, Quarters { j: 3 }), drawn(2, 3));
-    assert_eq!(draw(&words, Quarters { j: 47 }), Err(Exhausted));
-    for j in NO_MEANS {
-        assert_eq!(draw(&words, Quarters { j }), Err(MeanOutside));
-        assert_eq!(draw(&[], Quarters { j }), Err(MeanOutside));
-    }
-}
-
-/// The word over which the list's threshold and exp's part: it is above the first alone.
-#[test]
-fn a_word_between_two_thresholds() {
-    let words = [0xc75f_7cf5_6410_5800, 0];
-    let by_exp = f64::from_bits(0x3fe8_ebef_9eac_820b);
-    assert_eq!(draw(&words, Quarters { j: 1 }), drawn(1, 2));
-    assert_eq!(draw(&words, poisson(by_exp)), drawn(0, 1));
-}
-
 #[test]
 fn a_tape_too_long_comes_first() {
     let tape = vec![LAST; MOST_WORDS + 1];
-    for request in [
-        tray(1, 2, 0),
-        poisson(f64::NAN),
-        geometric(f64::NAN),
-        StandardGeometric,
-        Quarters { j: 0 },
-    ] {
+    for request in [tray(1, 2, 0), poisson(f64::NAN), geometric(f64::NAN), StandardGeometric] {
         assert_eq!(draw(&tape, request), Err(TapeTooLong));
     }
     assert_eq!(draw(&tape[1..], tray(9, 3, 4)), drawn(3, 1));
@@ -287,28 +257,6 @@ fn standard_geometric_deliveries() {
     assert_eq!(book, filled(ROOM + 24));
 }
 
-/// A mean in quarters likewise; a booking with a parameter that is no mean is a copy, and differs.
-#[test]
-fn quarters_deliveries() {
-    let tape = [&TAPE[..], &[1]].concat();
-    let mut book = filled(ROOM + 32);
-    assert_eq!(refused(&TAPE, &mut book, 2, Quarters { j: 0.5_f64.to_bits() }), SerialReused);
-    assert_eq!(refused(&TAPE, &mut book, 6, Quarters { j: 3 }), SerialAhead);
-    assert_eq!(refused(&TAPE, &mut book[..ROOM + 31], 5, Quarters { j: 3 }), BookFull);
-    assert_eq!(refused(&TAPE, &mut book, 5, Quarters { j: 3 }), Exhausted);
-
-    assert_eq!(deliver(&tape, &mut book, 5, Quarters { j: 3 }), fresh(0, 1));
-    assert_eq!(deliver(&tape, &mut book, 5, Quarters { j: 3 }), copy(0, 1));
-    assert_eq!(refused(&tape, &mut book, 5, Quarters { j: 4 }), SerialReused);
-    assert_eq!(redraw(&tape, &book), Ok(5));
-
-    book[ROOM + 24] = 48;
-    assert_eq!(deliver(&tape, &mut book, 5, Quarters { j: 48 }), copy(0, 1));
-    assert_eq!(redraw(&tape, &book), Err(RedrawDiffers { serial: 5 }));
-    assert_eq!(strike(&tape, &mut book, 1), Ok(4));
-    assert_eq!(book, filled(ROOM + 32));
-}
-
 #[test]
 fn parameters_come_before_the_room() {
     let mut book = filled(ROOM);
@@ -321,8 +269,6 @@ fn parameters_come_before_the_room() {
         (poisson(ABOVE_ONE), ThresholdOutside),
         (geometric(f64::NAN), InvalidProbability),
         (geometric(0.5_f64.powi(32)), TooRare),
-        (Quarters { j: 0 }, MeanOutside),
-        (Quarters { j: 48 }, MeanOutside),
     ] {
         assert_eq!(refused(&TAPE, &mut book, 5, request), refusal);
     }
@@ -335,7 +281,6 @@ fn all_refused(tape: &[u64], book: &mut [u8], refusal: Refusal) {
     assert_eq!(refused(tape, book, 1, poisson(0.5)), refusal);
     assert_eq!(refused(tape, book, 1, geometric(0.5)), refusal);
     assert_eq!(refused(tape, book, 1, StandardGeometric), refusal);
-    assert_eq!(refused(tape, book, 1, Quarters { j: 3 }), refusal);
     assert_eq!(strike(tape, book, 0), Err(refusal));
     assert_eq!(strike(tape, book, 9), Err(refusal));
     assert_eq!(redraw(tape, book), Err(refusal));

@@ -13,13 +13,12 @@ use Rattle.words.specs.Outcome.{Outcome, drawn, refused}
 use Rattle.words.specs.Refusals.{Condition, ◌on◌, First}
 use Rattle.words.specs.Draw.{shorts, endings}
 use Rattle.poisson.specs.Poisson.{poisson}
-use Rattle.quarters.specs.Quarters.{quarters}
 use Rattle.geometric.specs.Geometric.{geometric}
 use Rattle.standard_geometric.specs.Standard.{standard_geometric}
 use Rattle.hypergeometric.specs.SetUp.{tray_refusals}
 use Rattle.hypergeometric.specs.Hypergeometric.{hypergeometric}
 use Rattle.kinds.specs.declared.Request.{Request}
-use Rattle.kinds.specs.declared.Request.TheVariants.{Hypergeometric, Poisson, Geometric, StandardGeometric, Quarters}
+use Rattle.kinds.specs.declared.Request.TheVariants.{Hypergeometric, Poisson, Geometric, StandardGeometric}
 use Rattle.kinds.specs.Kinds.{kind_of, request_of}
 use Rattle.kinds.proofs.Requests.{asks_nothing}
 use Rattle.draws.specs.Request.{parameter_refusals, reading_of}
@@ -69,12 +68,11 @@ first_ruled (c ∷ cs) n h (inr f) = first_ruled cs n h.1 f.1
 
 -- each kind's parameters: a line a kind
 parameters_ruled : (r : Request) → AllRuled (parameter_refusals r)
-unfolding poisson geometric standard_geometric hypergeometric tray_refusals quarters
+unfolding poisson geometric standard_geometric hypergeometric tray_refusals
 parameters_ruled (Hypergeometric N K n) = search rules
 parameters_ruled (Poisson T) = search rules
 parameters_ruled (Geometric p) = search rules
 parameters_ruled StandardGeometric = search rules
-parameters_ruled (Quarters j) = search rules
 
 endings_ruled : {A : Type 0} (o : Outcome A) → AllRuled (endings shorts o)
 unfolding endings

@@ -24,7 +24,7 @@ deliver_asked ws b s (some r) = deliver ws b s r
 
 -- which functions these are: a number that grows with them
 abbrev pub version : ℕ
-version = 2
+version = 1
 
 -- ---- the struct
 

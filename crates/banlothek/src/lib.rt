@@ -5,7 +5,7 @@
 ghost use Rattle.std.specs.Prelude.{◌≡◌, [], ◌∷◌, ◌<◌, ◌^◌};
 ghost use Rattle.words.specs.Outcome.{used_of};
 ghost use Rattle.words.specs.Paper.{number_of, paper};
-ghost use Rattle.kinds.specs.declared.Request.TheVariants.{Hypergeometric, Poisson, Geometric, StandardGeometric, Quarters};
+ghost use Rattle.kinds.specs.declared.Request.TheVariants.{Hypergeometric, Poisson, Geometric, StandardGeometric};
 ghost use Rattle.book.specs.Deliver as rules;
 ghost use Rattle.banlothek.specs.Face.{DeliverTells, DrawTells, Meets, RedrawTells, StrikeTells, accepted, no_such_kind, of_delivery, plain, refused_by, version};
 
@@ -67,7 +67,7 @@ fn refuse(refusal: Refusal, serial: u32) -> BanlothekAnswer
     }
 }
 
-// ---- draws, each by its own kind's function: a caller that asks for one kind need not pay for a choice among five
+// ---- draws, each by its own kind's function: a caller that asks for one kind need not pay for a choice among four
 
 // A draw's answer.
 fn told(answer: Answer) -> BanlothekAnswer
@@ -107,12 +107,6 @@ pub fn banlothek_draw_standard_geometric(tape: &[u64]) -> BanlothekAnswer
     ensures { DrawTells StandardGeometric tape.now result }
 {
     told(standard_geometric::sample(tape))
-}
-
-pub fn banlothek_draw_quarters(tape: &[u64], j: u64) -> BanlothekAnswer
-    ensures { DrawTells (Quarters «j») tape.now result }
-{
-    told(quarters::sample(tape, j))
 }
 
 // ---- the book
@@ -190,7 +184,7 @@ pub fn banlothek_redraw(tape: &[u64], book: &[u8]) -> BanlothekAnswer
 // ---- which functions these are
 
 // The header has the same number, so that a caller can tell a header and a library that don't belong together.
-const VERSION: u32 = 2;
+const VERSION: u32 = 1;
 
 pub fn banlothek_version() -> u32
     ensures { result ≡ version }

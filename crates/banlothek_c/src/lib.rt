@@ -3,7 +3,7 @@
 #![tactic(auto)]
 
 ghost use Rattle.std.specs.Prelude.{◌≡◌, [], ◌∷◌};
-ghost use Rattle.kinds.specs.declared.Request.TheVariants.{Hypergeometric, Poisson, Geometric, StandardGeometric, Quarters};
+ghost use Rattle.kinds.specs.declared.Request.TheVariants.{Hypergeometric, Poisson, Geometric, StandardGeometric};
 ghost use Rattle.banlothek.specs.Face.{DeliverTells, DrawTells, RedrawTells, StrikeTells, version};
 
 use banlothek::BanlothekAnswer;
@@ -41,13 +41,6 @@ pub extern "C" fn banlothek_draw_standard_geometric(tape: &[u64]) -> BanlothekAn
     ensures { DrawTells StandardGeometric tape.now result }
 {
     banlothek::banlothek_draw_standard_geometric(tape)
-}
-
-#[unsafe(no_mangle)]
-pub extern "C" fn banlothek_draw_quarters(tape: &[u64], j: u64) -> BanlothekAnswer
-    ensures { DrawTells (Quarters «j») tape.now result }
-{
-    banlothek::banlothek_draw_quarters(tape, j)
 }
 
 // ---- the book

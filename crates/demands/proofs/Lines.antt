@@ -23,7 +23,7 @@ use Rattle.request_line.specs.declared.Line.TheVariants.{Deliver, Strike, Strike
 use Rattle.parted.specs.Parts.{word}
 use Rattle.request_line.specs.Words.{words, same_text}
 use Rattle.request_line.specs.Ends.{text_of, is_line}
-use Rattle.request_line.specs.Forms.{deliver_text, strike_text, from_text, redraw_text, hypergeometric_text, poisson_text, geometric_text, standard_text, quarters_text, is_form, on_number, number_at, tray_asked, poisson_asked, geometric_asked, quarters_asked, request_asked, on_asked, deliver_line, strike_line, strike_from_line, any_strike_line, redraw_line, call_line, is_passed, read_text, read_line}
+use Rattle.request_line.specs.Forms.{deliver_text, strike_text, from_text, redraw_text, hypergeometric_text, poisson_text, geometric_text, standard_text, is_form, on_number, number_at, tray_asked, poisson_asked, geometric_asked, request_asked, on_asked, deliver_line, strike_line, strike_from_line, any_strike_line, redraw_line, call_line, is_passed, read_text, read_line}
 use Rattle.opening.specs.Calls.{booked}
 use Rattle.book.specs.Strike.{strike}
 use Rattle.service.specs.StrikeFrom.{strike_from}
@@ -112,7 +112,7 @@ FitsBy f x = LineFits (f x)
 module _ (l : List ℕ) where
   -- the request of a delivery, of each kind
   request_fits : (s : ℕ) → LineFits (on_asked (request_asked l) (λ (r : Request). Deliver s r) Unread)
-  unfolding request_asked tray_asked poisson_asked geometric_asked quarters_asked numbered kind_of parameters_of
+  unfolding request_asked tray_asked poisson_asked geometric_asked numbered kind_of parameters_of
   request_fits s =
       let P = FitsBy (λ a. on_asked a (λ (r : Request). Deliver s r) Unread) in
       by-test P (is_form 6 2 hypergeometric_text l)
@@ -122,8 +122,7 @@ module _ (l : List ℕ) where
       (λ n c. (number_below 10 N (word 3 l) a, (number_below 10 K (word 4 l) b, (number_below 10 n (word 5 l) c, tt)))) tt) tt) tt)
       (λ _. by-test P (is_form 4 2 poisson_text l) (λ _. by_number P (float_bits (word 3 l)) (λ v e. (float_below v (word 3 l) e, tt)) tt)
       (λ _. by-test P (is_form 4 2 geometric_text l) (λ _. by_number P (float_bits (word 3 l)) (λ v e. (float_below v (word 3 l) e, tt)) tt)
-      (λ _. by-test P (is_form 3 2 standard_text l) (λ _. tt)
-      (λ _. by-test P (is_form 4 2 quarters_text l) (λ _. by_number P (number_at 3 l) (λ j e. (number_below 10 j (word 3 l) e, tt)) tt) (λ _. tt)))))
+      (λ _. by-test P (is_form 3 2 standard_text l) (λ _. tt) (λ _. tt))))
 
   -- either strike has none
   strike_fits : LineFits (any_strike_line l)

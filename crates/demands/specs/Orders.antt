@@ -1,9 +1,9 @@
 -- RULES, 'Refusals': the orders in digits, of every call. Assumes nothing.
-use Rattle.std.specs.Prelude.{ℕ, List, [], ◌∷◌, ◌++◌, map, ◌≡◌}
+use Rattle.std.specs.Prelude.{ℕ, List, [], ◌∷◌, map, ◌≡◌}
 use Rattle.words.specs.Refusals.{Condition}
 use Rattle.words.specs.Draw.{conditions}
 use Rattle.kinds.specs.declared.Request.{Request}
-use Rattle.kinds.specs.declared.Request.TheVariants.{Hypergeometric, Poisson, Geometric, StandardGeometric, Quarters}
+use Rattle.kinds.specs.declared.Request.TheVariants.{Hypergeometric, Poisson, Geometric, StandardGeometric}
 use Rattle.hypergeometric.specs.SetUp.{tray_refusals}
 use Rattle.draws.specs.Request.{drawing}
 use Rattle.book_lines.specs.Listing.{listing_refusals}
@@ -14,21 +14,19 @@ use Rattle.demands.specs.Demand2.{deliver_conditions, strike_conditions, redraw_
 abbrev pub order_of : List Condition → List ℕ
 order_of cs = map (λ (c : Condition). c.number) cs
 
--- the parameters', a line a kind
-abbrev pub parameters_order : Request → List ℕ
-parameters_order (Hypergeometric N K n) = 3 ∷ 4 ∷ 5 ∷ 6 ∷ 2 ∷ []
-parameters_order (Poisson T) = 7 ∷ []
-parameters_order (Geometric p) = 8 ∷ 9 ∷ []
-parameters_order StandardGeometric = []
-parameters_order (Quarters j) = 18 ∷ []
-
--- a draw: 1, the parameters', 10
+-- a draw: 1, parameters, 10
 abbrev pub draw_order : Request → List ℕ
-draw_order r = 1 ∷ parameters_order r ++ 10 ∷ []
+draw_order (Hypergeometric N K n) = 1 ∷ 3 ∷ 4 ∷ 5 ∷ 6 ∷ 2 ∷ 10 ∷ []
+draw_order (Poisson T) = 1 ∷ 7 ∷ 10 ∷ []
+draw_order (Geometric p) = 1 ∷ 8 ∷ 9 ∷ 10 ∷ []
+draw_order StandardGeometric = 1 ∷ 10 ∷ []
 
--- a delivery: 1, 11, 12, 13, then copy or 14, the parameters', 15, 10
+-- a delivery: 1, 11, 12, 13, then copy or 14, parameters, 15, 10
 abbrev pub deliver_order : Request → List ℕ
-deliver_order r = 1 ∷ 11 ∷ 12 ∷ 13 ∷ 14 ∷ parameters_order r ++ 15 ∷ 10 ∷ []
+deliver_order (Hypergeometric N K n) = 1 ∷ 11 ∷ 12 ∷ 13 ∷ 14 ∷ 3 ∷ 4 ∷ 5 ∷ 6 ∷ 2 ∷ 15 ∷ 10 ∷ []
+deliver_order (Poisson T) = 1 ∷ 11 ∷ 12 ∷ 13 ∷ 14 ∷ 7 ∷ 15 ∷ 10 ∷ []
+deliver_order (Geometric p) = 1 ∷ 11 ∷ 12 ∷ 13 ∷ 14 ∷ 8 ∷ 9 ∷ 15 ∷ 10 ∷ []
+deliver_order StandardGeometric = 1 ∷ 11 ∷ 12 ∷ 13 ∷ 14 ∷ 15 ∷ 10 ∷ []
 
 -- the statement: the conditions by which each call is refused, as demand 2 has them, stand in this order
 pub record Orders : Type 0 where

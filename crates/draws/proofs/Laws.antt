@@ -14,12 +14,11 @@ use Rattle.words.specs.Draw.{conditions}
 use Rattle.words.specs.Inner.{is_short}
 use Rattle.words.proofs.Lawful.{Lawful, RefusedShort, WantsMore, lawful_exactly, lawful_local, lawful_used, lawful_parameter, lawful_short}
 use Rattle.poisson.proofs.Laws.{poisson_lawful}
-use Rattle.quarters.proofs.Laws.{quarters_lawful}
 use Rattle.geometric.proofs.GeometricLaws.{geometric_lawful}
 use Rattle.standard_geometric.proofs.Laws.{standard_lawful}
 use Rattle.hypergeometric.proofs.Laws.{hypergeometric_lawful}
 use Rattle.kinds.specs.declared.Request.{Request}
-use Rattle.kinds.specs.declared.Request.TheVariants.{Hypergeometric, Poisson, Geometric, StandardGeometric, Quarters}
+use Rattle.kinds.specs.declared.Request.TheVariants.{Hypergeometric, Poisson, Geometric, StandardGeometric}
 use Rattle.draws.specs.Request.{drawing, Supported, parameter_refusals, reading_of, draw_of}
 
 -- each kind's record
@@ -28,7 +27,6 @@ lawful (Hypergeometric N K n) = hypergeometric_lawful N K n
 lawful (Poisson T) = poisson_lawful (of_bits binary64 T)
 lawful (Geometric p) = geometric_lawful (of_bits binary64 p)
 lawful StandardGeometric = standard_lawful
-lawful (Quarters j) = quarters_lawful j
 
 module _ (r : Request) where
   -- each refusal is given exactly on its condition, none earlier holding

@@ -7,13 +7,12 @@ use Rattle.words.specs.Outcome.{Outcome}
 use Rattle.words.specs.Refusals.{Condition}
 use Rattle.words.specs.Draw.{Drawing, draw, DrawAllows}
 use Rattle.poisson.specs.Poisson.{poisson}
-use Rattle.quarters.specs.Quarters.{quarters}
 use Rattle.geometric.specs.Geometric.{geometric}
 use Rattle.standard_geometric.specs.Standard.{standard_geometric}
 use Rattle.hypergeometric.specs.Reduction.{InSupport}
 use Rattle.hypergeometric.specs.Hypergeometric.{hypergeometric}
 use Rattle.kinds.specs.declared.Request.{Request}
-use Rattle.kinds.specs.declared.Request.TheVariants.{Hypergeometric, Poisson, Geometric, StandardGeometric, Quarters}
+use Rattle.kinds.specs.declared.Request.TheVariants.{Hypergeometric, Poisson, Geometric, StandardGeometric}
 
 -- each kind is drawn by its own rule, floats by their bits
 abbrev pub drawing : Request → Drawing ℕ
@@ -21,7 +20,6 @@ drawing (Hypergeometric N K n) = hypergeometric N K n
 drawing (Poisson T) = poisson (of_bits binary64 T)
 drawing (Geometric p) = geometric (of_bits binary64 p)
 drawing StandardGeometric = standard_geometric
-drawing (Quarters j) = quarters j
 
 -- what an accepted count keeps to: hypergeometric counts lie in max(0, n+K-N) to min(n, K)
 abbrev pub Supported : Request → ℕ → Type 0
@@ -29,7 +27,6 @@ Supported (Hypergeometric N K n) c = InSupport N K n c
 Supported (Poisson T) c = Unit
 Supported (Geometric p) c = Unit
 Supported StandardGeometric c = Unit
-Supported (Quarters j) c = Unit
 
 -- a request's parameters' refusals, in their order
 abbrev pub parameter_refusals : Request → List Condition

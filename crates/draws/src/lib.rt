@@ -19,6 +19,5 @@ pub fn draw(tape: &[u64], request: Request) -> Answer
         Request::Poisson { threshold } => poisson::sample_bits(tape, threshold),
         Request::Geometric { p } => geometric::sample_bits(tape, p),
         Request::StandardGeometric => standard_geometric::sample(tape),
-        Request::Quarters { j } => quarters::sample(tape, j),
     }
 }

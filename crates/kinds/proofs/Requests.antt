@@ -14,7 +14,7 @@ use borrow.Author.Tests.{eq-eqb, eqb-true}
 use Rattle.kinds.specs.declared.Parts.{Parts}
 use Rattle.kinds.specs.declared.Request.{Request}
 use Rattle.kinds.specs.declared.Row.TheVariants.{Of, Unknown}
-use Rattle.kinds.specs.declared.Request.TheVariants.{Hypergeometric, Poisson, Geometric, StandardGeometric, Quarters}
+use Rattle.kinds.specs.declared.Request.TheVariants.{Hypergeometric, Poisson, Geometric, StandardGeometric}
 use Rattle.kinds.specs.Kinds.{fixed_length, Kind, table, numbered, kind_of, length_in, parameters_in, request_of, parts_of, kind_number, three, parameters_of, length_of, same_parts, same_request}
 use Rattle.kinds.specs.Inner.{Alike, row, row_of}
 use Rattle.kinds.proofs.Table.{row_none, Each, found, Listed, listed, by_kind, shape_length, known}
@@ -26,7 +26,6 @@ request_again (Hypergeometric N K n) = refl
 request_again (Poisson T) = refl
 request_again (Geometric p) = refl
 request_again StandardGeometric = refl
-request_again (Quarters j) = refl
 
 -- ---- what a kind makes
 

@@ -3,7 +3,7 @@ use Rattle.std.specs.Prelude.{ℕ, ◌^◌, ◌<◌, Bool, cond, ◌&&◌, List,
 use Rattle.std.proofs.Math.Option.{Option, none, some, map}
 use Rattle.kinds.specs.declared.Parts.{Parts}
 use Rattle.kinds.specs.declared.Request.{Request}
-use Rattle.kinds.specs.declared.Request.TheVariants.{Hypergeometric, Poisson, Geometric, StandardGeometric, Quarters}
+use Rattle.kinds.specs.declared.Request.TheVariants.{Hypergeometric, Poisson, Geometric, StandardGeometric}
 
 -- every entry begins with so many bytes, its fixed fields; its parameters stand after them, 8 bytes each
 abbrev pub fixed_length : ℕ
@@ -28,7 +28,6 @@ table =
     ∷ kind 2 32 1 (λ T _ _. Poisson T)
     ∷ kind 3 32 1 (λ p _ _. Geometric p)
     ∷ kind 4 24 0 (λ _ _ _. StandardGeometric)
-    ∷ kind 5 32 1 (λ j _ _. Quarters j)
     ∷ []
 
 -- the kind that has this number, if one of the list does
@@ -58,13 +57,12 @@ request_of k ps = map (λ (x : Kind). x.makes (get_or ps 0 0) (get_or ps 1 0) (g
 abbrev pub parts : ℕ → ℕ → ℕ → ℕ → Parts
 parts k a b c = record { kind = k; first = a; second = b; third = c }
 
--- a request's kind and its parameters, with 0 past the last: N, K, n; the bits of T; the bits of p; none; j
+-- a request's kind and its parameters, with 0 past the last: N, K, n; the bits of T; the bits of p; none
 abbrev pub parts_of : Request → Parts
 parts_of (Hypergeometric N K n) = parts 1 N K n
 parts_of (Poisson T) = parts 2 T 0 0
 parts_of (Geometric p) = parts 3 p 0 0
 parts_of StandardGeometric = parts 4 0 0 0
-parts_of (Quarters j) = parts 5 j 0 0
 
 abbrev pub kind_number : Request → ℕ
 kind_number r = (parts_of r).kind

@@ -20,9 +20,6 @@ pub enum Request {
         p: u64,
     },
     StandardGeometric,
-    Quarters {
-        j: u64,
-    },
 }
 
 // A row of the table: the length of a kind's entry, the number of its parameters, and the request that they make; or that the number is no
@@ -77,11 +74,6 @@ pub fn row_of(kind: u16, first: u64, second: u64, third: u64) -> Row
             length: 24,
             parameters: 0,
             request: Request::StandardGeometric,
-        },
-        5 => Row::Of {
-            length: 32,
-            parameters: 1,
-            request: Request::Quarters { j: first },
         },
         _ => Row::Unknown,
     }
@@ -147,12 +139,6 @@ pub fn parts_of(request: Request) -> Parts
         Request::StandardGeometric => Parts {
             kind: 4,
             first: 0,
-            second: 0,
-            third: 0,
-        },
-        Request::Quarters { j } => Parts {
-            kind: 5,
-            first: j,
             second: 0,
             third: 0,
         },

@@ -1,7 +1,7 @@
 -- RULES, 'Lines of pull': which lines are read, and as what. Assumes nothing.
 use Rattle.std.specs.Prelude.{ℕ, ◌-◌, ◌^◌, Bool, cond, ◌&&◌, ◌||◌, List, [], ◌∷◌, eqb, ltb, length, get_or}
 use Rattle.kinds.specs.declared.Request.{Request}
-use Rattle.kinds.specs.declared.Request.TheVariants.{Hypergeometric, Poisson, Geometric, StandardGeometric, Quarters}
+use Rattle.kinds.specs.declared.Request.TheVariants.{Hypergeometric, Poisson, Geometric, StandardGeometric}
 use Rattle.numerals.specs.declared.Number.{Number}
 use Rattle.numerals.specs.declared.Number.TheVariants.{Is, Unread}
 use Rattle.numerals.specs.Digits.{number}
@@ -41,9 +41,6 @@ geometric_text = 103 ∷ 101 ∷ 111 ∷ 109 ∷ 101 ∷ 116 ∷ 114 ∷ 105 ∷
 abbrev pub standard_text : List ℕ
 standard_text = 115 ∷ 116 ∷ 97 ∷ 110 ∷ 100 ∷ 97 ∷ 114 ∷ 100 ∷ []  -- "standard"
 
-abbrev pub quarters_text : List ℕ
-quarters_text = 113 ∷ 117 ∷ 97 ∷ 114 ∷ 116 ∷ 101 ∷ 114 ∷ 115 ∷ []  -- "quarters"
-
 -- a line of k words that has this text as its word i
 abbrev pub is_form : ℕ → ℕ → List ℕ → List ℕ → Bool
 is_form k i t l = eqb (words l) k && same_text (word i l) t
@@ -71,18 +68,13 @@ poisson_asked l = on_number (float_bits (word 3 l)) (λ (T : ℕ). asked.For (Po
 unfoldable pub geometric_asked : List ℕ → Asked
 geometric_asked l = on_number (float_bits (word 3 l)) (λ (p : ℕ). asked.For (Geometric p)) asked.Unread
 
--- j, the word 3
-unfoldable pub quarters_asked : List ℕ → Asked
-quarters_asked l = on_number (number_at 3 l) (λ (j : ℕ). asked.For (Quarters j)) asked.Unread
-
 -- the request of a delivery, by the kind's name, the word 2
 unfoldable pub request_asked : List ℕ → Asked
 request_asked l =
     cond (is_form 6 2 hypergeometric_text l) (tray_asked l)
     (cond (is_form 4 2 poisson_text l) (poisson_asked l)
     (cond (is_form 4 2 geometric_text l) (geometric_asked l)
-    (cond (is_form 3 2 standard_text l) (asked.For StandardGeometric)
-    (cond (is_form 4 2 quarters_text l) (quarters_asked l) asked.Unread))))
+    (cond (is_form 3 2 standard_text l) (asked.For StandardGeometric) asked.Unread)))
 
 abbrev pub on_asked : {X : Type 0} → Asked → (Request → X) → X → X
 on_asked (asked.For r) f x = f r

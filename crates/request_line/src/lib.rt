@@ -7,7 +7,7 @@ ghost use Rattle.numerals.specs.Decimal.{float_bits};
 ghost use Rattle.parted.specs.Parts.{word};
 ghost use Rattle.request_line.specs.Words.{same_text};
 ghost use Rattle.request_line.specs.Words as text;
-ghost use Rattle.request_line.specs.Forms.{any_strike_line, call_line, deliver_line, geometric_asked, is_form, poisson_asked, quarters_asked, read_line, read_text, redraw_line, request_asked, strike_from_line, strike_line, tray_asked};
+ghost use Rattle.request_line.specs.Forms.{any_strike_line, call_line, deliver_line, geometric_asked, is_form, poisson_asked, read_line, read_text, redraw_line, request_asked, strike_from_line, strike_line, tray_asked};
 
 use bytes::scan::find;
 use kinds::Request;
@@ -147,15 +147,6 @@ fn geometric(line: &[u8]) -> Asked
     }
 }
 
-fn quarters(line: &[u8]) -> Asked
-    ensures { result ≡ quarters_asked line.now }
-{
-    match number_at(line, 3, u64::MAX) {
-        Number::Unread => Asked::Unread,
-        Number::Is(j) => Asked::For(Request::Quarters { j }),
-    }
-}
-
 // Whether the line has so many words, the third of them this text.
 fn is_form(line: &[u8], k: u64, text: &[u8]) -> bool
     requires { 0 < k }
@@ -182,9 +173,6 @@ fn request(line: &[u8]) -> Asked
     }
     if is_form(line, 3, b"standard") {
         return Asked::For(Request::StandardGeometric);
-    }
-    if is_form(line, 4, b"quarters") {
-        return quarters(line);
     }
     Asked::Unread
 }

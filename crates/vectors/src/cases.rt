@@ -1,6 +1,6 @@
 // The cases of a block, read and drawn again one by one.
 use crate::kept::draw_kept;
-use crate::single::{draw_mean, draw_single};
+use crate::single::draw_single;
 use crate::tally::{TALLY, note_fraction};
 use judge::{Said, rust_did};
 use kinds::{Request, Row, row_of};
@@ -13,9 +13,6 @@ const KEPT_TRAY: u64 = 1_001;
 
 // The kind of a case of a word and its fraction: another that no kind has.
 const FRACTION: u64 = 1_002;
-
-// The kind of a case of a mean in quarters by the Rust's own threshold: one more.
-const MEAN: u64 = 1_003;
 
 const MOST_KIND: u64 = 65_535;
 
@@ -30,13 +27,12 @@ pub(crate) struct Head {
     pub(crate) entry: u64,
 }
 
-// A case's request; or a kept tray, a fraction, or a mean; or a kind that there isn't.
+// A case's request; or a kept tray, or a fraction; or a kind that there isn't.
 #[derive(Clone, Copy)]
 enum Asked {
     Draw(Request),
     Kept,
     Fraction,
-    Mean,
     Unknown,
 }
 
@@ -46,9 +42,6 @@ fn asked_by(kind: u64, a: u64, b: u64, c: u64) -> Asked {
     }
     if kind == FRACTION {
         return Asked::Fraction;
-    }
-    if kind == MEAN {
-        return Asked::Mean;
     }
     if kind > MOST_KIND {
         return Asked::Unknown;
@@ -104,7 +97,6 @@ fn draw_asked(head: Head, tape: &[u64], tally: &mut [u64; TALLY]) -> bool {
         Asked::Unknown => return false,
         Asked::Kept => return draw_kept(head, tape, tally),
         Asked::Fraction => note_fraction(tally, fraction_bits(head.first), head.second),
-        Asked::Mean => draw_mean(head, tape, tally),
         Asked::Draw(request) => draw_single(head, request, tape, tally),
     }
     true

@@ -1,8 +1,8 @@
 // Draws of one request over one tape.
 use crate::cases::Head;
 use crate::compare::{as_said, compare};
-use crate::tally::{MEAN, TALLY, note};
-use judge::{Verdict, as_marked, is_same, judge_mean};
+use crate::tally::{TALLY, note};
+use judge::{Verdict, as_marked, is_same};
 use kinds::Request;
 use words::Answer;
 
@@ -37,15 +37,6 @@ pub(crate) fn hold(
     let rust = head.rust;
     let verdict = as_marked(head.entry, compare(request, here, rust));
     note(tally, kind, verdict, here, b" rust ", rust);
-}
-
-// Draws a mean in quarters again, by the list and with the threshold that the Rust had.
-pub(crate) fn draw_mean(head: Head, tape: &[u64], tally: &mut [u64; TALLY]) {
-    let rust = head.rust;
-    let here = quarters::sample(tape, head.first);
-    let with_its_threshold = poisson::sample_bits(tape, head.second);
-    let verdict = as_marked(head.entry, judge_mean(here, with_its_threshold, rust));
-    note(tally, MEAN, verdict, here, b" rust ", rust);
 }
 
 // The draw of a threshold or a probability that is handed over as a float, and not by its bits; or what was drawn by bits, where there is

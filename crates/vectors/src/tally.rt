@@ -22,9 +22,6 @@ pub(crate) const KEPT: usize = 15;
 // A fraction, likewise.
 const FRACTION: usize = 14;
 
-// A mean by the Rust's own threshold, likewise.
-pub(crate) const MEAN: usize = 13;
-
 // So many that differ are written out.
 const FEW: u64 = 8;
 
@@ -83,15 +80,12 @@ pub(crate) fn report(tally: &[u64; TALLY]) {
     say_kind(b"poisson", tally, 2);
     say_kind(b"geometric", tally, 3);
     say_kind(b"standard", tally, 4);
-    say_kind(b"quarters", tally, 5);
-    say_kind(b"mean", tally, MEAN);
     say_kind(b"fraction", tally, FRACTION);
     say_count(b"entry 1", tally, ENTRY + 1);
     say_count(b"entry 4", tally, ENTRY + 4);
     say_count(b"entry 5", tally, ENTRY + 5);
     say_count(b"entry 9", tally, ENTRY + 9);
     say_count(b"entry 10", tally, ENTRY + 10);
-    say_count(b"entry 11", tally, ENTRY + 11);
     say_count(b"cases", tally, 0);
     say_count(b"others", tally, OTHERS);
 }

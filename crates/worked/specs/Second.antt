@@ -1,4 +1,4 @@
--- RULES, 'Worked books', the second. A tape of 17 words and a book of 140 bytes; deliveries of kinds 1 to 4, copies and a strike; each answer,
+-- RULES, 'Worked books', the second. A tape of 17 words and a book of 140 bytes; deliveries of every kind, copies and a strike; each answer,
 -- and every byte after each call. No two fields of an entry have the same value, but for the kind 1 and the word that a hypergeometric draw
 -- uses. Assumes nothing.
 use Rattle.std.specs.Prelude.{ℕ, List, [], ◌∷◌, ◌++◌, ◌≡◌, replicate}

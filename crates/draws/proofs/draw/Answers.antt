@@ -20,6 +20,3 @@ returns-in-Geometric c = as_asked _ c.in-Geometric.is c.sample_bits-in-Geometric
 
 pub returns-in-StandardGeometric : goal.returns-in-StandardGeometric
 returns-in-StandardGeometric c = as_asked _ c.in-StandardGeometric.is c.sample-in-StandardGeometric.ensures
-
-pub returns-in-Quarters : goal.returns-in-Quarters
-returns-in-Quarters c = as_asked _ c.in-Quarters.is c.sample-in-Quarters.ensures

@@ -20,9 +20,5 @@ pub returns-in-4 : goal.returns-in-4
 unfolding kind_of numbered
 returns-in-4 c = rw c.in-4.is
 
-pub returns-in-5 : goal.returns-in-5
-unfolding kind_of numbered
-returns-in-5 c = rw c.in-5.is
-
 pub returns-in_default : goal.returns-in_default
 returns-in_default c = row_unlisted c.args.kind _ _ _ (search rules)
