@@ -1,8 +1,6 @@
 -- A number that has no row in its table. Assumes nothing.
 use mathlib.Core.Path.{◌≡◌}
-use mathlib.Core.Bool.{cond}
 use Prim.Native.Nat.{ℕ}
-use lib.Dec.{eqb}
 use borrow.Author.Tests.{ne_eqb}
 use Rattle.words.specs.Outcome.{refused}
 use Rattle.judge.specs.Judging.{rust_did}
@@ -14,7 +12,3 @@ unfolding rust_did
 act_none a c u n0 n1 n2 n3 n4 n5 n6 n7 =
     rw
     (ne_eqb a 0 n0, ne_eqb a 1 n1, ne_eqb a 2 n2, ne_eqb a 3 n3, ne_eqb a 4 n4, ne_eqb a 5 n5, ne_eqb a 6 n6, ne_eqb a 7 n7)
-
--- what a table of two numbers has for a third
-pub neither : {A : Type 0} (a b n : ℕ) (x y z : A) → (n ≡ a → ⊥) → (n ≡ b → ⊥) → cond (eqb n a) x (cond (eqb n b) y z) ≡ z
-neither a b n x y z na nb = rw (ne_eqb n a na, ne_eqb n b nb)
