@@ -7,7 +7,6 @@ ghost use Rattle.hypergeometric.specs.SetUp.{FromSetUp};
 
 use hypergeometric::{Hypergeometric, SetUp};
 use input::Got;
-use libc::{STDIN_FILENO, STDOUT_FILENO};
 use words::Answer;
 
 const MOST_BYTES: usize = 4_096;
@@ -58,18 +57,18 @@ fn draw_many(case: &[u64]) -> u64 {
     }
 }
 
-fn main() {
+fn main(rt: HostRuntime) {
     let mut bytes = [0u8; MOST_BYTES];
     let mut case = [0u64; MOST_WORDS];
-    match input::fill(STDIN_FILENO, &mut bytes) {
+    match input::fill(&mut rt.stdin(), &mut bytes) {
         Got::Failed => {
-            io::write_all(STDOUT_FILENO, b"unread input\n");
+            let _ = rt.write_all(b"unread input\n");
         }
         Got::Bytes(n) => {
             let count = n / 8;
             bytes_le::read_words(&bytes, count, &mut case, 0);
-            io::print_decimal(STDOUT_FILENO, draw_many(&case[..count]));
-            io::write_all(STDOUT_FILENO, b"\n");
+            let _ = rt.print(draw_many(&case[..count]));
+            let _ = rt.write_all(b"\n");
         }
     }
 }

@@ -3,24 +3,23 @@
 
 use book_lines::LISTING_BYTES;
 use input::Got;
-use libc::{STDIN_FILENO, STDOUT_FILENO};
 
 // A byte more than a book may have is enough to refuse it.
 const READ_BYTES: usize = 65_537;
 
 // Writes the listing of these bytes.
-fn list(book: &[u8]) {
+fn list(rt: &impl Print, book: &[u8]) {
     let mut out = [0u8; LISTING_BYTES];
     let length = book_lines::listing(book, &mut out);
-    io::write_all(STDOUT_FILENO, &out[..length]);
+    let _ = rt.write_all(&out[..length]);
 }
 
-fn main() {
+fn main(rt: HostRuntime) {
     let mut book = [0u8; READ_BYTES];
-    match input::fill(STDIN_FILENO, &mut book) {
+    match input::fill(&mut rt.stdin(), &mut book) {
         Got::Failed => {
-            io::write_all(STDOUT_FILENO, b"unread book\n");
+            let _ = rt.write_all(b"unread book\n");
         }
-        Got::Bytes(n) => list(&book[..n]),
+        Got::Bytes(n) => list(&rt, &book[..n]),
     }
 }

@@ -4,12 +4,15 @@ ghost use Rattle.std.specs.Prelude.{◌≤◌, length as size};
 use crate::say;
 use crate::store::replace;
 use input::{Got, read_some};
-use libc::{STDIN_FILENO, STDOUT_FILENO};
+use std::fs::Files;
+use std::io::Read;
 use std::num::wrapping_add_u64;
 
 // Of a line this many bytes are kept: a text of 255, a carriage return and the newline. Of a longer one the newline is not, so that
 // what is kept of it is no line.
 const LINE_BYTES: usize = 257;
+
+const CHUNK_BYTES: usize = 4096;
 
 // How far the reading is: the number of the line at hand, how many of its bytes are kept, and whether to go on.
 #[derive(Clone, Copy)]
@@ -20,17 +23,24 @@ struct Reading {
 }
 
 // Answers a line. What changed the book is on the disk before the answer is written.
-fn answer(tape: &[u64], book: &mut [u8], path: &[u8], line: &[u8], number: u64) -> bool
+fn answer<R: Files + Print>(
+    rt: &R,
+    tape: &[u64],
+    book: &mut [u8],
+    path: &[u8],
+    line: &[u8],
+    number: u64,
+) -> bool
     requires { size path.now ≤ 4091 }
 {
     let mut out = [0u8; answer_lines::ANSWER_BYTES];
     let served = service::serve(tape, book, number, line, &mut out);
-    if served.changed && !replace(path, book) {
-        say(b"unwritten\n");
+    if served.changed && !replace(rt, path, book) {
+        say(rt, b"unwritten\n");
         return false;
     }
     let n = served.length;
-    io::write_all(STDOUT_FILENO, &out[..n])
+    rt.write_all(&out[..n]).is_ok()
 }
 
 // Keeps a byte of the line, where there is room.
@@ -46,7 +56,8 @@ fn keep(line: &mut [u8], length: usize, byte: u8) -> usize
 }
 
 // Takes a byte of the input: a newline ends the line at hand, which is answered.
-fn take_byte(
+fn take_byte<R: Files + Print>(
+    rt: &R,
     tape: &[u64],
     book: &mut [u8],
     path: &[u8],
@@ -60,7 +71,7 @@ fn take_byte(
     let number = reading.number;
     let length = keep(line, reading.length, byte);
     if byte == b'\n' {
-        let goes_on = answer(tape, book, path, &line[..length], number);
+        let goes_on = answer(rt, tape, book, path, &line[..length], number);
         return Reading {
             number: wrapping_add_u64(number, 1),
             length: 0,
@@ -75,7 +86,8 @@ fn take_byte(
 }
 
 // Takes the bytes that have come.
-fn take_bytes(
+fn take_bytes<R: Files + Print>(
+    rt: &R,
     tape: &[u64],
     book: &mut [u8],
     path: &[u8],
@@ -89,7 +101,7 @@ fn take_bytes(
     let mut now = reading;
     let mut i: usize = 0;
     while i < bytes.len() {
-        now = take_byte(tape, book, path, line, now, bytes[i]);
+        now = take_byte(rt, tape, book, path, line, now, bytes[i]);
         if !now.goes_on {
             break;
         }
@@ -99,7 +111,9 @@ fn take_bytes(
 }
 
 // One read, and the lines that it ends. What the input has after its last newline was cut off: it is handed on as it is, and is no line.
-fn take_some(
+fn take_some<R: Files + Print, I: Read>(
+    rt: &R,
+    input: &mut I,
     tape: &[u64],
     book: &mut [u8],
     path: &[u8],
@@ -109,17 +123,17 @@ fn take_some(
     requires { (size path.now ≤ 4091) × (reading.length ≤ size line.old) }
     ensures { result.length ≤ size line.old }
 {
-    let mut chunk = io::buffer();
+    let mut chunk = [0u8; CHUNK_BYTES];
     let number = reading.number;
     let length = reading.length;
-    match read_some(STDIN_FILENO, &mut chunk) {
-        Got::Failed => say(b"unread input\n"),
+    match read_some(input, &mut chunk) {
+        Got::Failed => say(rt, b"unread input\n"),
         Got::Bytes(n) => {
             if n != 0 {
-                return take_bytes(tape, book, path, line, reading, &chunk[..n]);
+                return take_bytes(rt, tape, book, path, line, reading, &chunk[..n]);
             }
             if length != 0 {
-                answer(tape, book, path, &line[..length], number);
+                answer(rt, tape, book, path, &line[..length], number);
             }
         }
     }
@@ -131,7 +145,13 @@ fn take_some(
 }
 
 // Answers every line. A proved loop has to end, so this one counts its turns, from a number that no run uses up.
-pub(crate) fn answer_all(tape: &[u64], book: &mut [u8], path: &[u8])
+pub(crate) fn answer_all<R: Files + Print, I: Read>(
+    rt: &R,
+    input: &mut I,
+    tape: &[u64],
+    book: &mut [u8],
+    path: &[u8],
+)
     requires { size path.now ≤ 4091 }
 {
     let mut line = [0u8; LINE_BYTES];
@@ -142,7 +162,7 @@ pub(crate) fn answer_all(tape: &[u64], book: &mut [u8], path: &[u8])
     };
     let mut turns = u64::MAX;
     while turns > 0 && reading.goes_on {
-        reading = take_some(tape, book, path, &mut line, reading);
+        reading = take_some(rt, input, tape, book, path, &mut line, reading);
         turns -= 1;
     }
 }

@@ -1,49 +1,60 @@
 // The pull service: answers each line of standard input by a line, over a tape and a book that are files.
 #![tactic(auto)]
 
+mod files;
 mod lines;
 mod store;
 mod tape;
 
-use libc::STDOUT_FILENO;
+use std::env::{Env, FillError};
+use std::fs::Files;
+use std::io::Read;
 use store::{Kept, MOST_NAME, READ_BYTES};
 use tape::{Loaded, MOST_WORDS};
 
 // Writes a line.
-fn say(line: &[u8]) {
-    io::write_all(STDOUT_FILENO, line);
+fn say(rt: &impl Print, line: &[u8]) {
+    let _ = rt.write_all(line);
 }
 
 // Answers the lines over this tape and the book that the second argument names.
-fn serve(tape: &[u64]) {
+fn serve<R: Env + Files + Print, I: Read>(rt: &R, input: &mut I, tape: &[u64]) {
     let mut name = [0u8; MOST_NAME];
-    let length = os::arg(2, &mut name);
-    if os::errno() != 0 {
-        say(b"unread book\n");
+    let Ok(length) = rt.arg(2, &mut name) else {
+        say(rt, b"unread book\n");
         return;
-    }
+    };
     // No file has an empty name, and `.new` after it would be one.
     if length == 0 {
-        say(b"unread book\n");
+        say(rt, b"unread book\n");
         return;
     }
     let mut book = [0u8; READ_BYTES];
-    match store::load(&name[..length], &mut book) {
-        Kept::Unread => say(b"unread book\n"),
-        Kept::Unwritten => say(b"unwritten\n"),
-        Kept::Bytes(n) => lines::answer_all(tape, &mut book[..n], &name[..length]),
+    match store::load(rt, &name[..length], &mut book) {
+        Kept::Unread => say(rt, b"unread book\n"),
+        Kept::Unwritten => say(rt, b"unwritten\n"),
+        Kept::Bytes(n) => lines::answer_all(rt, input, tape, &mut book[..n], &name[..length]),
     }
 }
 
-fn main() {
-    if os::arg_count() != 3 {
-        say(b"usage: pull TAPE BOOK\n");
+// Whether there is an argument of this number; 0 is the program's name.
+fn is_given(rt: &impl Env, i: usize) -> bool {
+    let mut first = [0u8];
+    match rt.arg(i, &mut first) {
+        Ok(_) | Err(FillError::TooLong) => true,
+        Err(FillError::NotPresent) => false,
+    }
+}
+
+fn main(rt: HostRuntime) {
+    if !is_given(&rt, 2) || is_given(&rt, 3) {
+        say(&rt, b"usage: pull TAPE BOOK\n");
         return;
     }
     let mut tape = [0u64; MOST_WORDS];
-    match tape::load(&mut tape) {
-        Loaded::Unread => say(b"unread tape\n"),
-        Loaded::TooLong => say(b"tape too long for pull\n"),
-        Loaded::Words(n) => serve(&tape[..n]),
+    match tape::load(&rt, &mut tape) {
+        Loaded::Unread => say(&rt, b"unread tape\n"),
+        Loaded::TooLong => say(&rt, b"tape too long for pull\n"),
+        Loaded::Words(n) => serve(&rt, &mut rt.stdin(), &tape[..n]),
     }
 }

@@ -3,8 +3,12 @@ ghost use Rattle.std.specs.Prelude.{◌≤◌, length};
 ghost use Rattle.io.specs.Counts.{IsPrefixLen};
 ghost use Rattle.pull.specs.Inner.{KeptWithin};
 
+use crate::files::{create, open_overwrite, open_read, rename};
 use bytes_le::all_zero;
 use input::{Got, fill};
+use std::fs::{Files, OpenFile};
+use std::io;
+use std::io::{ErrorKind, Write};
 use writing::put_text;
 
 // The bytes of a book that is made here, and a byte more: enough to tell that a file is longer than any book.
@@ -14,6 +18,8 @@ pub(crate) const READ_BYTES: usize = 65_537;
 
 // The longest name of a book, so that `.new` fits after it.
 pub(crate) const MOST_NAME: usize = 4091;
+
+const NEXT_BYTES: usize = 4096;
 
 // What the book's file gave: so many bytes; or that it can't be read, or can't be made.
 #[derive(Clone, Copy)]
@@ -27,7 +33,7 @@ pub(crate) enum Kept {
 
 // Puts the name of the book's next file at the front of `name`, and answers its length. `Counts` lets the check see by itself that
 // `&name[..n]` lies within.
-fn next_name(path: &[u8], name: &mut [u8; 4096]) -> usize
+fn next_name(path: &[u8], name: &mut [u8; NEXT_BYTES]) -> usize
     requires { length path.now ≤ 4091 }
     ensures { IsPrefixLen result name.new }
 {
@@ -52,89 +58,81 @@ fn folder_length(path: &[u8]) -> usize
 // ---- writing
 
 // Opens the folder that the path lies in.
-fn open_folder(path: &[u8]) -> i32 {
+fn open_folder<R: Files>(rt: &R, path: &[u8]) -> io::Result<R::File> {
     let n = folder_length(path);
     if n == 0 {
-        return os::open_read(b".");
+        return open_read(rt, b".");
     }
-    os::open_read(&path[..n])
+    open_read(rt, &path[..n])
 }
 
 // Waits until the names in the path's folder are on the disk.
-fn sync_folder(path: &[u8]) -> bool {
-    let fd = open_folder(path);
-    if fd < 0 {
-        return false;
+fn sync_folder(rt: &impl Files, path: &[u8]) -> bool {
+    match open_folder(rt, path) {
+        Ok(folder) => folder.sync_all().is_ok(),
+        Err(_) => false,
     }
-    let is_synced = libc::fsync(fd) == 0;
-    libc::close(fd);
-    is_synced
 }
 
-// Writes a file whole, and waits until it is on the disk.
-fn write_synced(path: &[u8], bytes: &[u8]) -> bool {
-    let fd = os::open_overwrite(path);
-    if fd < 0 {
+// Writes a file whole, and waits until it is on the disk. It is closed at the end.
+fn write_synced(rt: &impl Files, path: &[u8], bytes: &[u8]) -> bool {
+    let Ok(mut file) = open_overwrite(rt, path) else {
         return false;
-    }
-    let is_written = io::write_all(fd, bytes);
-    let is_synced = libc::fsync(fd) == 0;
-    let is_closed = libc::close(fd) == 0;
-    is_written && is_synced && is_closed
+    };
+    let is_written = file.write_all(bytes).is_ok();
+    let is_synced = file.sync_all().is_ok();
+    is_written && is_synced
 }
 
 // The next file takes the book's name.
-fn take_name(next: &[u8], path: &[u8]) -> bool {
-    if os::rename(next, path) != 0 {
+fn take_name(rt: &impl Files, next: &[u8], path: &[u8]) -> bool {
+    if rename(rt, next, path).is_err() {
         return false;
     }
-    sync_folder(path)
+    sync_folder(rt, path)
 }
 
 // Replaces the book's file by these bytes. True: they are on the disk under its name.
-pub(crate) fn replace(path: &[u8], bytes: &[u8]) -> bool
+pub(crate) fn replace(rt: &impl Files, path: &[u8], bytes: &[u8]) -> bool
     requires { length path.now ≤ 4091 }
 {
-    let mut name = io::buffer();
+    let mut name = [0u8; NEXT_BYTES];
     let n = next_name(path, &mut name);
-    if !write_synced(&name[..n], bytes) {
+    if !write_synced(rt, &name[..n], bytes) {
         return false;
     }
-    take_name(&name[..n], path)
+    take_name(rt, &name[..n], path)
 }
 
 // ---- reading
 
 // Makes a book of zeros where there was none: its bytes first, then its name, which `create` gives only to a file that is new.
-fn make(path: &[u8], zeros: &[u8]) -> bool
+fn make(rt: &impl Files, path: &[u8], zeros: &[u8]) -> bool
     requires { length path.now ≤ 4091 }
 {
-    let mut name = io::buffer();
+    let mut name = [0u8; NEXT_BYTES];
     let n = next_name(path, &mut name);
-    if !write_synced(&name[..n], zeros) {
+    if !write_synced(rt, &name[..n], zeros) {
         return false;
     }
-    let fd = os::create(path);
-    if fd < 0 {
+    if create(rt, path).is_err() {
         return false;
     }
-    libc::close(fd);
-    take_name(&name[..n], path)
+    take_name(rt, &name[..n], path)
 }
 
 // A book's file with no byte beside a next file that is a whole empty book: its making was cut short, and is finished here.
-fn finish_making(path: &[u8], book: &mut [u8]) -> Kept
+fn finish_making(rt: &impl Files, path: &[u8], book: &mut [u8]) -> Kept
     requires { (length path.now ≤ 4091) × (65536 ≤ length book.old) }
     ensures { KeptWithin (length book.new) result }
 {
-    let mut name = io::buffer();
+    let mut name = [0u8; NEXT_BYTES];
     let n = next_name(path, &mut name);
-    let fd = os::open_read(&name[..n]);
-    if fd < 0 {
+    let Ok(mut file) = open_read(rt, &name[..n]) else {
         return Kept::Bytes(0);
-    }
-    let got = fill(fd, book);
-    libc::close(fd);
+    };
+    let got = fill(&mut file, book);
+    drop(file);
     let Got::Bytes(length) = got else {
         return Kept::Bytes(0);
     };
@@ -144,42 +142,42 @@ fn finish_making(path: &[u8], book: &mut [u8]) -> Kept
     if !all_zero(book, 0) {
         return Kept::Bytes(0);
     }
-    if take_name(&name[..n], path) {
+    if take_name(rt, &name[..n], path) {
         return Kept::Bytes(BOOK_BYTES);
     }
     Kept::Unwritten
 }
 
-// Where there is no book, one is made. `book` holds zeros.
-fn make_missing(path: &[u8], book: &[u8]) -> Kept
+// Where the book can't be opened since there is none, one is made. `book` holds zeros.
+fn make_missing(rt: &impl Files, path: &[u8], book: &[u8], why: ErrorKind) -> Kept
     requires { (length path.now ≤ 4091) × (65536 ≤ length book.now) }
     ensures { KeptWithin (length book.now) result }
 {
-    if os::errno() != libc::ENOENT {
+    if why != ErrorKind::NotFound {
         return Kept::Unread;
     }
-    if make(path, &book[..BOOK_BYTES]) {
+    if make(rt, path, &book[..BOOK_BYTES]) {
         return Kept::Bytes(BOOK_BYTES);
     }
     Kept::Unwritten
 }
 
 // Reads the book's file whole, or makes one of zeros where it is missing. `book` holds zeros before.
-pub(crate) fn load(path: &[u8], book: &mut [u8]) -> Kept
+pub(crate) fn load(rt: &impl Files, path: &[u8], book: &mut [u8]) -> Kept
     requires { (length path.now ≤ 4091) × (65536 ≤ length book.old) }
     ensures { KeptWithin (length book.new) result }
 {
-    let fd = os::open_read(path);
-    if fd < 0 {
-        return make_missing(path, book);
-    }
-    let got = fill(fd, book);
-    libc::close(fd);
+    let mut file = match open_read(rt, path) {
+        Ok(file) => file,
+        Err(e) => return make_missing(rt, path, book, e.kind()),
+    };
+    let got = fill(&mut file, book);
+    drop(file);
     match got {
         Got::Failed => Kept::Unread,
         Got::Bytes(n) => {
             if n == 0 {
-                return finish_making(path, book);
+                return finish_making(rt, path, book);
             }
             Kept::Bytes(n)
         }

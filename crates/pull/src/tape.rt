@@ -2,13 +2,20 @@
 ghost use Rattle.std.specs.Prelude.{◌≤◌, length};
 ghost use Rattle.pull.specs.Inner.{LoadedWithin, TakenWithin};
 
+use crate::files::open_read;
 use bytes_le::read_words;
 use input::{Got, fill};
+use std::env::Env;
+use std::fs::Files;
+use std::io::Read;
 
 // The most words of a tape that this program holds.
 pub(crate) const MOST_WORDS: usize = 131_072;
 
 const CHUNK_BYTES: usize = 4096;
+
+// These hold the longest name of a file.
+const NAME_BYTES: usize = 4096;
 
 // What a tape's file gave: so many words; or that it holds more than the program does, or can't be read as words.
 #[derive(Clone, Copy)]
@@ -28,12 +35,12 @@ enum Taken {
 }
 
 // Reads a part of the file into the tape after the first `words` words.
-fn take_part(fd: i32, tape: &mut [u64], words: usize) -> Taken
+fn take_part<F: Read>(file: &mut F, tape: &mut [u64], words: usize) -> Taken
     requires { words ≤ length tape.old }
     ensures { TakenWithin words (length tape.new) result }
 {
     let mut chunk = [0u8; CHUNK_BYTES];
-    match fill(fd, &mut chunk) {
+    match fill(file, &mut chunk) {
         Got::Failed => Taken::Unread,
         Got::Bytes(n) => {
             if tape.len() - words < (n + 7) / 8 {
@@ -52,12 +59,12 @@ fn take_part(fd: i32, tape: &mut [u64], words: usize) -> Taken
 }
 
 // Reads the whole file.
-fn take_all(fd: i32, tape: &mut [u64]) -> Loaded
+fn take_all<F: Read>(file: &mut F, tape: &mut [u64]) -> Loaded
     ensures { LoadedWithin (length tape.new) result }
 {
     let mut words: usize = 0;
     loop {
-        match take_part(fd, tape, words) {
+        match take_part(file, tape, words) {
             Taken::More(n) => words = n,
             Taken::Last(n) => return Loaded::Words(n),
             Taken::TooLong => return Loaded::TooLong,
@@ -67,19 +74,15 @@ fn take_all(fd: i32, tape: &mut [u64]) -> Loaded
 }
 
 // Reads the tape's file, which the first argument names.
-pub(crate) fn load(tape: &mut [u64]) -> Loaded
+pub(crate) fn load<R: Env + Files>(rt: &R, tape: &mut [u64]) -> Loaded
     ensures { LoadedWithin (length tape.new) result }
 {
-    let mut name = io::buffer();
-    let length = os::arg(1, &mut name);
-    if os::errno() != 0 {
+    let mut name = [0u8; NAME_BYTES];
+    let Ok(length) = rt.arg(1, &mut name) else {
         return Loaded::Unread;
-    }
-    let fd = os::open_read(&name[..length]);
-    if fd < 0 {
+    };
+    let Ok(mut file) = open_read(rt, &name[..length]) else {
         return Loaded::Unread;
-    }
-    let loaded = take_all(fd, tape);
-    libc::close(fd);
-    loaded
+    };
+    take_all(&mut file, tape)
 }

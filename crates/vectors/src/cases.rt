@@ -57,7 +57,7 @@ fn asked_by(kind: u64, a: u64, b: u64, c: u64) -> Asked {
 }
 
 // Draws the cases of a block again. Whether all of it could be read.
-pub(crate) fn draw_block(words: &[u64], tally: &mut [u64; TALLY]) -> bool {
+pub(crate) fn draw_block(rt: &impl Print, words: &[u64], tally: &mut [u64; TALLY]) -> bool {
     let mut at: usize = 0;
     while at < words.len() {
         let length = words[at] as usize;
@@ -68,7 +68,7 @@ pub(crate) fn draw_block(words: &[u64], tally: &mut [u64; TALLY]) -> bool {
             return false;
         }
         let end = at + length;
-        if !draw_case(&words[at..end], tally) {
+        if !draw_case(rt, &words[at..end], tally) {
             return false;
         }
         at = end;
@@ -77,7 +77,7 @@ pub(crate) fn draw_block(words: &[u64], tally: &mut [u64; TALLY]) -> bool {
 }
 
 // Draws a case again. Whether it could be read.
-fn draw_case(case: &[u64], tally: &mut [u64; TALLY]) -> bool {
+fn draw_case(rt: &impl Print, case: &[u64], tally: &mut [u64; TALLY]) -> bool {
     if case.len() < HEADER {
         return false;
     }
@@ -89,15 +89,15 @@ fn draw_case(case: &[u64], tally: &mut [u64; TALLY]) -> bool {
         rust: rust_did(case[5], case[6], case[7] as usize),
         entry: case[8],
     };
-    draw_asked(head, &case[HEADER..], tally)
+    draw_asked(rt, head, &case[HEADER..], tally)
 }
 
-fn draw_asked(head: Head, tape: &[u64], tally: &mut [u64; TALLY]) -> bool {
+fn draw_asked(rt: &impl Print, head: Head, tape: &[u64], tally: &mut [u64; TALLY]) -> bool {
     match asked_by(head.kind, head.first, head.second, head.third) {
         Asked::Unknown => return false,
-        Asked::Kept => return draw_kept(head, tape, tally),
-        Asked::Fraction => note_fraction(tally, fraction_bits(head.first), head.second),
-        Asked::Draw(request) => draw_single(head, request, tape, tally),
+        Asked::Kept => return draw_kept(rt, head, tape, tally),
+        Asked::Fraction => note_fraction(rt, tally, fraction_bits(head.first), head.second),
+        Asked::Draw(request) => draw_single(rt, head, request, tape, tally),
     }
     true
 }

@@ -11,7 +11,12 @@ use kinds::Request;
 use words::{Answer, Draw};
 
 // Sets the tray up, and draws from it again. Whether the case could be read.
-pub(crate) fn draw_kept(head: Head, pairs: &[u64], tally: &mut [u64; TALLY]) -> bool {
+pub(crate) fn draw_kept(
+    rt: &impl Print,
+    head: Head,
+    pairs: &[u64],
+    tally: &mut [u64; TALLY],
+) -> bool {
     let rust = head.rust;
     let request = Request::Hypergeometric {
         total: head.first,
@@ -20,15 +25,16 @@ pub(crate) fn draw_kept(head: Head, pairs: &[u64], tally: &mut [u64; TALLY]) -> 
     };
     let s = hypergeometric::set_up(head.first, head.second, head.third);
     match s {
-        SetUp::Ready(kept) => draw_ready(request, kept, rust, pairs, tally),
+        SetUp::Ready(kept) => draw_ready(rt, request, kept, rust, pairs, tally),
         SetUp::Refused(refusal) => {
-            hold(head, request, KEPT, Answer::Refused(refusal), tally);
+            hold(rt, head, request, KEPT, Answer::Refused(refusal), tally);
             true
         }
     }
 }
 
 fn draw_ready(
+    rt: &impl Print,
     request: Request,
     kept: Hypergeometric,
     rust: Said,
@@ -42,14 +48,22 @@ fn draw_ready(
     let here = hypergeometric::sample_from(&tape[..0], kept);
     let due = Said::Stopped { number: 10 };
     if !is_same(here, due) {
-        note(tally, KEPT, Verdict::Differs, here, b" over no word ", due);
+        note(
+            rt,
+            tally,
+            KEPT,
+            Verdict::Differs,
+            here,
+            b" over no word ",
+            due,
+        );
     }
     match rust {
-        Said::Drew(_) => draw_pairs(request, kept, pairs, tally),
+        Said::Drew(_) => draw_pairs(rt, request, kept, pairs, tally),
         Said::Stopped { number: _ } => {
             // the Rust stopped at a tray that is set up here
             let here = Answer::Drawn(Draw { count: 0, used: 0 });
-            note(tally, KEPT, Verdict::Differs, here, b" rust ", rust);
+            note(rt, tally, KEPT, Verdict::Differs, here, b" rust ", rust);
             true
         }
     }
@@ -57,6 +71,7 @@ fn draw_ready(
 
 // Pairs of a word and the Rust's count over it.
 fn draw_pairs(
+    rt: &impl Print,
     request: Request,
     kept: Hypergeometric,
     pairs: &[u64],
@@ -70,13 +85,14 @@ fn draw_pairs(
         if past == pairs.len() {
             return false;
         }
-        draw_pair(request, kept, pairs[at], pairs[past], tally);
+        draw_pair(rt, request, kept, pairs[at], pairs[past], tally);
         at = past + 1;
     }
     true
 }
 
 fn draw_pair(
+    rt: &impl Print,
     request: Request,
     kept: Hypergeometric,
     word: u64,
@@ -89,6 +105,7 @@ fn draw_pair(
     let here = hypergeometric::sample_from(&tape, kept);
     let rust = Said::Drew(Draw { count, used: 1 });
     note(
+        rt,
         tally,
         KEPT,
         compare(request, here, rust),

@@ -11,11 +11,13 @@ mod tally;
 mod tell;
 
 use input::Got;
-use libc::{STDIN_FILENO, STDOUT_FILENO};
+use std::io::Read;
 use tally::TALLY;
 
-// What is read at a time, and fills a large buffer. No case goes over a block's end.
+// What is read at a time. No case goes over a block's end.
 const BLOCK_WORDS: usize = 8_192;
+
+const BLOCK_BYTES: usize = 65_536;
 
 // What came of a block: its cases are drawn again and there may be more, the input has ended, or nothing can be made of it.
 #[derive(Clone, Copy)]
@@ -26,10 +28,10 @@ enum Block {
 }
 
 // Reads a block, and draws its cases again.
-fn take_block(tally: &mut [u64; TALLY]) -> Block {
-    let mut bytes = io::large_buffer();
+fn take_block<R: Read>(rt: &impl Print, reader: &mut R, tally: &mut [u64; TALLY]) -> Block {
+    let mut bytes = [0u8; BLOCK_BYTES];
     let mut words = [0u64; BLOCK_WORDS];
-    match input::fill(STDIN_FILENO, &mut bytes) {
+    match input::fill(reader, &mut bytes) {
         Got::Failed => Block::Unread,
         Got::Bytes(n) => {
             if n == 0 {
@@ -40,7 +42,7 @@ fn take_block(tally: &mut [u64; TALLY]) -> Block {
             }
             let count = n / 8;
             bytes_le::read_words(&bytes, count, &mut words, 0);
-            if cases::draw_block(&words[..count], tally) {
+            if cases::draw_block(rt, &words[..count], tally) {
                 Block::Drawn
             } else {
                 Block::Unread
@@ -51,10 +53,10 @@ fn take_block(tally: &mut [u64; TALLY]) -> Block {
 
 // Draws the cases of every block again. Whether all could be read. A proved loop has to end, so this one counts its turns, from a number
 // that no run uses up.
-fn draw_all(tally: &mut [u64; TALLY]) -> bool {
+fn draw_all<R: Read>(rt: &impl Print, reader: &mut R, tally: &mut [u64; TALLY]) -> bool {
     let mut turns = u64::MAX;
     while turns > 0 {
-        match take_block(tally) {
+        match take_block(rt, reader, tally) {
             Block::Drawn => turns -= 1,
             Block::End => return true,
             Block::Unread => return false,
@@ -63,11 +65,11 @@ fn draw_all(tally: &mut [u64; TALLY]) -> bool {
     false
 }
 
-fn main() {
+fn main(rt: HostRuntime) {
     let mut tally = [0u64; TALLY];
-    if draw_all(&mut tally) {
-        tally::report(&tally);
+    if draw_all(&rt, &mut rt.stdin(), &mut tally) {
+        tally::report(&rt, &tally);
     } else {
-        io::write_all(STDOUT_FILENO, b"unread case\n");
+        let _ = rt.write_all(b"unread case\n");
     }
 }

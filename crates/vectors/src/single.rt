@@ -7,15 +7,22 @@ use kinds::Request;
 use words::Answer;
 
 // Draws again what the Rust drew, and where the request has a float, once more by it.
-pub(crate) fn draw_single(head: Head, request: Request, tape: &[u64], tally: &mut [u64; TALLY]) {
+pub(crate) fn draw_single(
+    rt: &impl Print,
+    head: Head,
+    request: Request,
+    tape: &[u64],
+    tally: &mut [u64; TALLY],
+) {
     let kind = head.kind as usize;
     let here = draws::draw(tape, request);
     let by_bits = as_said(here);
     let by_float = draw_by_float(tape, request, here);
     if is_same(by_float, by_bits) {
-        hold(head, request, kind, here, tally);
+        hold(rt, head, request, kind, here, tally);
     } else {
         note(
+            rt,
             tally,
             kind,
             Verdict::Differs,
@@ -28,6 +35,7 @@ pub(crate) fn draw_single(head: Head, request: Request, tape: &[u64], tally: &mu
 
 // Holds an answer here against what the Rust did, and the entry that the case is marked with.
 pub(crate) fn hold(
+    rt: &impl Print,
     head: Head,
     request: Request,
     kind: usize,
@@ -36,7 +44,7 @@ pub(crate) fn hold(
 ) {
     let rust = head.rust;
     let verdict = as_marked(head.entry, compare(request, here, rust));
-    note(tally, kind, verdict, here, b" rust ", rust);
+    note(rt, tally, kind, verdict, here, b" rust ", rust);
 }
 
 // The draw of a threshold or a probability that is handed over as a float, and not by its bits; or what was drawn by bits, where there is

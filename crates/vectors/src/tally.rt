@@ -28,6 +28,7 @@ const FEW: u64 = 8;
 // Counts a case of a kind by its verdict. Of those that differ the first few are written out: the answer here, and the one that it is held
 // against after its name.
 pub(crate) fn note(
+    rt: &impl Print,
     tally: &mut [u64; TALLY],
     kind: usize,
     verdict: Verdict,
@@ -42,7 +43,7 @@ pub(crate) fn note(
         Verdict::Listed { entry } => add(tally, ENTRY, entry as usize),
         Verdict::Differs => {
             if tally[OTHERS] < FEW {
-                tell(tally[0], kind, as_said(here), name, due);
+                tell(rt, tally[0], kind, as_said(here), name, due);
             }
             add(tally, OTHERS, 0);
         }
@@ -50,14 +51,14 @@ pub(crate) fn note(
 }
 
 // Counts a fraction by its bits.
-pub(crate) fn note_fraction(tally: &mut [u64; TALLY], here: u64, recorded: u64) {
+pub(crate) fn note_fraction(rt: &impl Print, tally: &mut [u64; TALLY], here: u64, recorded: u64) {
     add(tally, 0, 0);
     add(tally, 0, FRACTION);
     if here == recorded {
         add(tally, AGREE, FRACTION);
     } else {
         if tally[OTHERS] < FEW {
-            tell_fraction(tally[0], here, recorded);
+            tell_fraction(rt, tally[0], here, recorded);
         }
         add(tally, OTHERS, 0);
     }
@@ -74,35 +75,35 @@ fn add(tally: &mut [u64; TALLY], row: usize, place: usize) {
 }
 
 // Writes all the counts, a line for each kind and each entry.
-pub(crate) fn report(tally: &[u64; TALLY]) {
-    say_kind(b"hypergeometric", tally, 1);
-    say_kind(b"kept", tally, KEPT);
-    say_kind(b"poisson", tally, 2);
-    say_kind(b"geometric", tally, 3);
-    say_kind(b"standard", tally, 4);
-    say_kind(b"fraction", tally, FRACTION);
-    say_count(b"entry 1", tally, ENTRY + 1);
-    say_count(b"entry 4", tally, ENTRY + 4);
-    say_count(b"entry 5", tally, ENTRY + 5);
-    say_count(b"entry 9", tally, ENTRY + 9);
-    say_count(b"entry 10", tally, ENTRY + 10);
-    say_count(b"cases", tally, 0);
-    say_count(b"others", tally, OTHERS);
+pub(crate) fn report(rt: &impl Print, tally: &[u64; TALLY]) {
+    say_kind(rt, b"hypergeometric", tally, 1);
+    say_kind(rt, b"kept", tally, KEPT);
+    say_kind(rt, b"poisson", tally, 2);
+    say_kind(rt, b"geometric", tally, 3);
+    say_kind(rt, b"standard", tally, 4);
+    say_kind(rt, b"fraction", tally, FRACTION);
+    say_count(rt, b"entry 1", tally, ENTRY + 1);
+    say_count(rt, b"entry 4", tally, ENTRY + 4);
+    say_count(rt, b"entry 5", tally, ENTRY + 5);
+    say_count(rt, b"entry 9", tally, ENTRY + 9);
+    say_count(rt, b"entry 10", tally, ENTRY + 10);
+    say_count(rt, b"cases", tally, 0);
+    say_count(rt, b"others", tally, OTHERS);
 }
 
-fn say_kind(name: &[u8], tally: &[u64; TALLY], kind: usize) {
+fn say_kind(rt: &impl Print, name: &[u8], tally: &[u64; TALLY], kind: usize) {
     if kind < ROW {
-        say(name);
-        say_number(b" ", tally[kind]);
-        say_number(b" agree ", tally[AGREE + kind]);
-        say(b"\n");
+        say(rt, name);
+        say_number(rt, b" ", tally[kind]);
+        say_number(rt, b" agree ", tally[AGREE + kind]);
+        say(rt, b"\n");
     }
 }
 
-fn say_count(name: &[u8], tally: &[u64; TALLY], place: usize) {
+fn say_count(rt: &impl Print, name: &[u8], tally: &[u64; TALLY], place: usize) {
     if place < TALLY {
-        say(name);
-        say_number(b" ", tally[place]);
-        say(b"\n");
+        say(rt, name);
+        say_number(rt, b" ", tally[place]);
+        say(rt, b"\n");
     }
 }
