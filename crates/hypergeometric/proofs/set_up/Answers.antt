@@ -10,17 +10,28 @@ use Rattle.hypergeometric.proofs.set_up.Goals as goal
 pub returns-then-population_with_feature-total_population_size :
     goal.returns-then-population_with_feature-total_population_size
 unfolding settled tray_refusals
-returns-then-population_with_feature-total_population_size c = simp (lt-ltb _ _ c.if-population_with_feature-total_population_size.true)
+returns-then-population_with_feature-total_population_size c =
+    let a = c.args in
+    simp (lt-ltb a.total_population_size a.population_with_feature (omega arith))
 
 pub returns-then-sample_size-total_population_size : goal.returns-then-sample_size-total_population_size
 unfolding settled tray_refusals
 returns-then-sample_size-total_population_size c =
-    simp (le-ltb _ _ c.if-population_with_feature-total_population_size.false, lt-ltb _ _ c.if-sample_size-total_population_size.true)
+    let a = c.args in
+    simp (
+      le-ltb a.total_population_size a.population_with_feature (omega arith),
+      lt-ltb a.total_population_size a.sample_size (omega arith),
+    )
 
 pub returns-then-total_population_size-gt-CAP : goal.returns-then-total_population_size-gt-CAP
 unfolding settled tray_refusals
 returns-then-total_population_size-gt-CAP c =
-    simp (le-ltb _ _ c.if-population_with_feature-total_population_size.false, le-ltb _ _ c.if-sample_size-total_population_size.false, lt-ltb _ _ c.if-total_population_size-gt-CAP.true)
+    let a = c.args in
+    simp (
+      le-ltb a.total_population_size a.population_with_feature (omega arith),
+      le-ltb a.total_population_size a.sample_size (omega arith),
+      lt-ltb population_cap a.total_population_size (omega arith),
+    )
 
 -- the sizes of what the reduction gave
 given_sizes : (N K n : ℕ) (r : Reduced) → K ≤ N → n ≤ N → N ≤ population_cap → r ≡ reduction N K n → Sizes N r.n1 r.n2 r.k
@@ -28,33 +39,43 @@ given_sizes N K n r a b c e = subst (λ (r : Reduced). Sizes N r.n1 r.n2 r.k) (s
 
 pub overflow_add-r : goal.overflow_add-r
 overflow_add-r c =
-    let z = given_sizes _ _ _ _ c.if-population_with_feature-total_population_size.false c.if-sample_size-total_population_size.false c.if-total_population_size-gt-CAP.false c.reduce-r.ensures in
+    let z = given_sizes _ _ _ _ (omega arith) (omega arith) (omega arith) c.reduce-r.ensures in
     omega (arith, z.k≤)
 
 pub overflow_add-r-2 : goal.overflow_add-r-2
 overflow_add-r-2 c =
-    let z = given_sizes _ _ _ _ c.if-population_with_feature-total_population_size.false c.if-sample_size-total_population_size.false c.if-total_population_size-gt-CAP.false c.reduce-r.ensures in
+    let z = given_sizes _ _ _ _ (omega arith) (omega arith) (omega arith) c.reduce-r.ensures in
     omega (arith, z.n1≤)
 
 pub overflow_mul-r : goal.overflow_mul-r
 overflow_mul-r c =
-    let z = given_sizes _ _ _ _ c.if-population_with_feature-total_population_size.false c.if-sample_size-total_population_size.false c.if-total_population_size-gt-CAP.false c.reduce-r.ensures in
+    let z = given_sizes _ _ _ _ (omega arith) (omega arith) (omega arith) c.reduce-r.ensures in
     record { fits = z.product }
 
 pub first_probability-first-requires : goal.first_probability-first-requires
 first_probability-first-requires c =
-    let z = given_sizes _ _ _ _ c.if-population_with_feature-total_population_size.false c.if-sample_size-total_population_size.false c.if-total_population_size-gt-CAP.false c.reduce-r.ensures in
+    let z = given_sizes _ _ _ _ (omega arith) (omega arith) (omega arith) c.reduce-r.ensures in
     (omega arith, z.n1≤, z.n2≤, z.k≤)
 
 pub returns-then-r-total_population_size : goal.returns-then-r-total_population_size
 unfolding settled tray_refusals is_taken set_up
 returns-then-r-total_population_size c =
+    let a = c.args in
     c.with_first.ensures
-    ∙ simp (le-ltb _ _ c.if-population_with_feature-total_population_size.false, le-ltb _ _ c.if-sample_size-total_population_size.false, le-ltb _ _ c.if-total_population_size-gt-CAP.false)
+    ∙ simp (
+      le-ltb a.total_population_size a.population_with_feature (omega arith),
+      le-ltb a.total_population_size a.sample_size (omega arith),
+      le-ltb population_cap a.total_population_size (omega arith),
+    )
     (simp (← c.reduce-r.ensures, ← c.first_probability-first.ensures, lt-ltb _ _ c.if-r-total_population_size.true))
 
 pub returns : goal.returns
 unfolding settled tray_refusals is_taken set_up
 returns c =
-    simp (le-ltb _ _ c.if-population_with_feature-total_population_size.false, le-ltb _ _ c.if-sample_size-total_population_size.false, le-ltb _ _ c.if-total_population_size-gt-CAP.false)
+    let a = c.args in
+    simp (
+      le-ltb a.total_population_size a.population_with_feature (omega arith),
+      le-ltb a.total_population_size a.sample_size (omega arith),
+      le-ltb population_cap a.total_population_size (omega arith),
+    )
     (simp (← c.reduce-r.ensures, le-ltb _ _ c.if-r-total_population_size.false))
