@@ -5,8 +5,8 @@ use Prim.Native.Nat.{ℕ, suc, ◌+◌, ◌-◌, ◌≤◌, ◌<◌}
 use native.Mathlib.Numerals.{add-one}
 use native.Mathlib.Omega.{arith}
 use lib.ListN.{length, take, drop, drop_of_length-le}
-use Rattle.bytes.specs.Bytes.{slice, index_of}
-use Rattle.numerals.specs.Split.{past}
+use Rattle.std.specs.List.{slice_range}
+use Rattle.numerals.specs.Split.{index_of, past}
 use Rattle.numerals.proofs.Reading.{find_ends, find_past}
 use Rattle.parted.specs.Parts.{space, past_words, word}
 
@@ -21,7 +21,7 @@ unfolding past_words
 words_end k i l h = let n : k - i ≡ 0 = omega arith in rw n
 
 -- the first space from a place on, or the line's end
-module _ (l : List ℕ) (from to : ℕ) (e : to ≡ from + index_of space (slice from (length l) l)) where
+module _ (l : List ℕ) (from to : ℕ) (e : to ≡ from + index_of space (slice_range l from (length l))) where
   -- what stands after it
   pub after_space : drop (to + 1) l ≡ past space (drop from l)
   after_space = rw (e, add-one) (find_past space from l)
@@ -34,5 +34,5 @@ module _ (l : List ℕ) (from to : ℕ) (e : to ≡ from + index_of space (slice
   pub part_word : (k : ℕ) → drop from l ≡ past_words k l → take (to - from) (drop from l) ≡ word k l
   unfolding word
   part_word k d =
-      let n : to - from ≡ index_of space (slice from (length l) l) = omega arith in
+      let n : to - from ≡ index_of space (slice_range l from (length l)) = omega arith in
       rw (n, ← d) (find_ends space from l)

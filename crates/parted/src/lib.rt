@@ -4,7 +4,7 @@
 ghost use Rattle.std.specs.Prelude.{◌≡◌, ◌≤◌, length, drop};
 ghost use Rattle.parted.specs.Parts.{past_words};
 
-use bytes::scan::find;
+use numerals::find;
 
 // What parts two words.
 pub const SPACE: u8 = b' ';

@@ -1,18 +1,10 @@
 -- `numerals::go_on` meets its contract: what is left to read from here gives the whole, and a number that would pass `most` is never made.
 -- Assumes nothing.
-use Rattle.std.proofs.Common.{rules, arith, ℕ, ◌+◌, ◌-◌, ◌*◌, ◌/◌, ◌≤◌, ◌<◌, sym, ap, ◌∙◌}
+use Rattle.std.proofs.Common.{rules, arith, sym, ap, ◌∙◌}
 use native.Mathlib.Nat.{le-div_iff_mul-le, div-lt_iff_lt-mul}
 use Rattle.numerals.specs.Digits.{digit_of}
 use Rattle.numerals.proofs.Reading.{go_end, go_more, go_none, go_over}
 use Rattle.numerals.proofs.go_on.Goals as goal
-
--- past the tests the next number is at most `most`
-within : (base most value next : ℕ) → 0 < base → next ≤ most → value ≤ (most - next) / base → base * value + next ≤ most
-within base most value next pos h k = omega (arith, h, (le-div_iff_mul-le {k = base} pos).0 k)
-
--- at the last test it is above
-above : (base most value next : ℕ) → 0 < base → (most - next) / base < value → most < base * value + next
-above base most value next pos k = omega (arith, (div-lt_iff_lt-mul {k = base} pos).0 k)
 
 pub returns-then-base-next : goal.returns-then-base-next
 returns-then-base-next c =
@@ -33,13 +25,13 @@ returns-then-most-next-2 c =
     sym
     (go_over c.args.text.now c.args.base c.args.most c.loop-i.value c.loop-i.i c.digit-next.result (search rules)
     (c.digit-next.ensures ∙ ap digit_of c.widen.ensures) (search rules)
-    (above c.args.base c.args.most c.loop-i.value c.digit-next.result (search rules) c.if-most-next-2.true))
+    (omega (arith, (div-lt_iff_lt-mul {k = c.args.base} (search rules)).0 c.if-most-next-2.true)))
     ∙ c.loop-i.invariant.2
 
 pub loop-i-preserved : goal.loop-i-preserved
 loop-i-preserved c = (
   search rules,
-  within c.args.base c.args.most c.loop-i.value c.digit-next.result (search rules) (search rules) c.if-most-next-2.false,
+  omega (arith, c.if-most-next.false, (le-div_iff_mul-le {k = c.args.base} (search rules)).0 c.if-most-next-2.false),
   sym
       (go_more c.args.text.now c.args.base c.args.most c.loop-i.value c.loop-i.i c.digit-next.result (search rules)
       (c.digit-next.ensures ∙ ap digit_of c.widen.ensures) c.if-base-next.false)
