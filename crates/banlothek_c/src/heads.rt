@@ -1,7 +1,7 @@
 // A call of every export, with plain parameters and with nothing shown first: one that came to demand something of its caller, or that said less
 // of its answer, would leave the call here without its proof. Nothing calls these.
 ghost use Rattle.std.specs.Prelude.{◌≡◌, [], ◌∷◌};
-ghost use Rattle.kinds.specs.declared.Request.TheVariants.{Hypergeometric, Poisson, Geometric, StandardGeometric, Quarters};
+ghost use Rattle.kinds.specs.declared.Request.TheVariants.{Hypergeometric, Poisson, Geometric, StandardGeometric};
 ghost use Rattle.banlothek.specs.Face.{DeliverTells, DrawTells, RedrawTells, StrikeTells, version};
 
 use banlothek::BanlothekAnswer;
@@ -28,12 +28,6 @@ fn c_draw_standard_geometric(tape: &[u64]) -> BanlothekAnswer
     ensures { DrawTells StandardGeometric tape.now result }
 {
     crate::banlothek_draw_standard_geometric(tape)
-}
-
-fn c_draw_quarters(tape: &[u64], j: u64) -> BanlothekAnswer
-    ensures { DrawTells (Quarters «j») tape.now result }
-{
-    crate::banlothek_draw_quarters(tape, j)
 }
 
 fn c_deliver(
