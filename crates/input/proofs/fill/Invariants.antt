@@ -1,4 +1,4 @@
--- What was read so far lies within the buffer, and each turn adds to it. Assumes nothing.
+-- `input::fill` meets its contract: what was read so far lies within the buffer, and each turn adds to it. Assumes nothing.
 use Rattle.std.proofs.Common.{length, ◌-◌, ◌≡◌, ◌≤◌}
 use Rattle.input.proofs.fill.Given as goal
 
