@@ -86,12 +86,9 @@ module _ (ws b : List ℕ) (s : ℕ) (r : Request) where
 
           go : later (delivery ws es s r) ≡ call (given (14 on not (same_request (booked_at es s).request r) ∷ []) (copied (booked_at es s))) b
           go =
-              rw (
-                ne_eqb s 0 nz,
-                le-ltb (length es + 1) s (omega arith),
-                lt-ltb s (length es + 1) l,
-                ne_eqb s (length es + 1) (λ z. omega arith),
-              )
+              let old : is_next (length es) s ≡ false = ne_eqb s (length es + 1) (λ z. omega arith) in
+              ap (λ (x : Bool). delivering (given (13 on is_ahead (length es) s ∷ 14 on is_reused es s r ∷ when_next x news) (delivery ws es s r)) b (standing es) r) old
+              ∙ rw (ne_eqb s 0 nz, le-ltb (length es + 1) s (omega arith), lt-ltb s (length es + 1) l, old)
               (either (not (same_request (booked_at es s).request r)))
 
     -- fresh: by how the book stands and nothing more
@@ -101,13 +98,10 @@ module _ (ws b : List ℕ) (s : ℕ) (r : Request) where
       where
         go : later (delivery ws es s r) ≡ fresh_delivery ws b (standing es) r
         go =
-            rw (
-              ne_eqb s 0 (λ z. omega arith),
-              le-ltb (length es + 1) s (omega arith),
-              le-ltb s (length es + 1) (omega arith),
-              eq-eqb s (length es + 1) e,
-              next_asked news,
-            )
+            let next : is_next (length es) s ≡ true = eq-eqb s (length es + 1) e in
+            let asked : when_next (is_next (length es) s) news ≡ news = ap (λ (x : Bool). when_next x news) next ∙ next_asked news in
+            ap (λ (cs : List Condition). delivering (given (13 on is_ahead (length es) s ∷ 14 on is_reused es s r ∷ cs) (delivery ws es s r)) b (standing es) r) asked
+            ∙ rw (ne_eqb s 0 (λ z. omega arith), le-ltb (length es + 1) s (omega arith), le-ltb s (length es + 1) (omega arith), next)
 
 -- ---- what an entry answers
 

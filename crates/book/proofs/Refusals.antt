@@ -1,5 +1,6 @@
 -- A delivery is refused exactly by the condition of its list that holds first. Assumes nothing.
-use mathlib.Core.Path.{◌≡◌}
+use mathlib.Core.Bool.{Bool}
+use mathlib.Core.Path.{◌≡◌, sym, ap, ◌∙◌, subst}
 use mathlib.Core.List.{List, [], ◌∷◌, ◌++◌}
 use mathlib.Core.Logic.{◌↔◌}
 use Prim.Native.Nat.{ℕ}
@@ -41,7 +42,8 @@ delivery_covered ws b es s r n =
     let fs : List Condition = fresh_refusals vs b (standing es).end r in
     let firsts : List Condition = limits ws b ++ (13 on is_ahead (length es) s ∷ 14 on is_reused es s r ∷ []) in
     by-test (λ (o : Outcome Booking). o ≡ refused n → SomeFirst (firsts ++ when_next (is_next (length es) s) fs)) (is_next (length es) s)
-    (λ t e. rw (t, next_asked fs) (some_after firsts fs (fresh_covered vs b (standing es).end r n (freshly_refused (reading_of r vs) n e))))
+    (λ t e. subst (λ (cs : List Condition). SomeFirst (firsts ++ cs)) (sym (ap (λ (x : Bool). when_next x fs) t ∙ next_asked fs))
+    (some_after firsts fs (fresh_covered vs b (standing es).end r n (freshly_refused (reading_of r vs) n e))))
     (λ t e. let z : ◌≡◌ {A = ℕ} 0 1 = cc in absurd (omega arith))
 
 pub deliver_exactly : (ws b : List ℕ) (s : ℕ) (r : Request) (n : ℕ)
