@@ -6,7 +6,7 @@ ghost use Rattle.words.specs.Paper.{number_of};
 ghost use Rattle.writing.specs.Writing.{Writes};
 ghost use Rattle.names.specs.Names.{name_of};
 
-use bytes::scan::find;
+use numerals::find;
 use parted::{SPACE, start_of};
 use words::{Refusal, number};
 use writing::put_text;
