@@ -1,6 +1,6 @@
 -- What was written, or read, lies within what was lent for it. Assumes nothing.
 use Rattle.std.proofs.Common.{ℕ, ◌≤◌, List, length, sym, length-take-le}
-use Rattle.io.specs.Counts.{IsPrefixLen}
+use Rattle.std.specs.Counts.{IsPrefixLen}
 use Rattle.writing.specs.Writing.{Writes}
 use Rattle.writing.proofs.Writing.{written_within}
 

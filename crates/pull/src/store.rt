@@ -1,6 +1,6 @@
 // The book's file: read whole, and replaced whole. A kill at any moment leaves the old file or the new one.
 ghost use Rattle.std.specs.Prelude.{◌≤◌, length};
-ghost use Rattle.io.specs.Counts.{IsPrefixLen};
+ghost use Rattle.std.specs.Counts.{IsPrefixLen};
 ghost use Rattle.pull.specs.Inner.{KeptWithin};
 
 use crate::files::{create, open_overwrite, open_read, rename};
