@@ -47,12 +47,12 @@ pub returns-then-read_le-place : goal.returns-then-read_le-place
 returns-then-read_le-place c =
     let a = c.args in
     head_place a.book.now a.at a.serial a.place _ _ refl c.read_le-length.ensures c.if-left-lt2.false c.if-length-eq0.false c.if-left-length.false
-    _ c.read_le.ensures _ c.length_by.ensures c.if-length-length_by.false _ c.read_le-2.ensures c.if-read_le-serial.false
+    _ c.read_le.ensures _ c.length_by.ensures c.if-length-length_by.false _ c.read_le-2.ensures (omega arith)
     _ c.read_le-3.ensures c.if-read_le-place.true
 
 pub returns : goal.returns
 returns c =
     let a = c.args in
     head_found a.book.now a.at a.serial a.place _ _ refl c.read_le-length.ensures c.if-left-lt2.false c.if-length-eq0.false c.if-left-length.false
-    _ c.read_le.ensures _ c.length_by.ensures c.if-length-length_by.false _ c.read_le-2.ensures c.if-read_le-serial.false
-    _ c.read_le-3.ensures c.if-read_le-place.false
+    _ c.read_le.ensures _ c.length_by.ensures c.if-length-length_by.false _ c.read_le-2.ensures (omega arith)
+    _ c.read_le-3.ensures (omega arith)
