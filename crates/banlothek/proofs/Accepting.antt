@@ -5,10 +5,9 @@ use mathlib.Core.Logic.{◌↔◌}
 use native.Mathlib.Omega.{arith}
 use Rattle.words.specs.declared.Answer.{Answer}
 use Rattle.words.specs.declared.Answer.TheVariants.{Drawn, Refused}
-use Rattle.words.specs.declared.Refusal.{Refusal}
-use Rattle.words.specs.declared.Refusal.TheVariants.{TapeTooLong, PopulationTooLarge, ProbabilityTooLarge, SampleSizeTooLarge, CapExceeded, ModeTooHigh, ThresholdOutside, InvalidProbability, TooRare, Exhausted, BookTooLong, BookDamaged, SerialAhead, SerialReused, BookFull, StrikeTooMany, RedrawDiffers}
 use Rattle.words.specs.Outcome.{Outcome, drawn, refused}
-use Rattle.words.specs.Paper.{number_of, paper}
+use Rattle.words.specs.Paper.{paper}
+use Rattle.words.proofs.OneAnswer.{never_zero}
 use Rattle.book.specs.declared.Struck.{Struck}
 use Rattle.book.specs.declared.Struck.TheVariants as of-struck
 use Rattle.redraws.specs.declared.Redrawn.{Redrawn}
@@ -17,25 +16,6 @@ use Rattle.book.specs.Strike.{struck}
 use Rattle.redraws.specs.Redraw.{redrawn}
 use Rattle.banlothek.specs.Face.{plain, of_redraw}
 
-no_zero : (x : Refusal) → number_of x ≡ 0 → ⊥
-no_zero TapeTooLong e = omega arith
-no_zero PopulationTooLarge e = omega arith
-no_zero ProbabilityTooLarge e = omega arith
-no_zero SampleSizeTooLarge e = omega arith
-no_zero CapExceeded e = omega arith
-no_zero ModeTooHigh e = omega arith
-no_zero ThresholdOutside e = omega arith
-no_zero InvalidProbability e = omega arith
-no_zero TooRare e = omega arith
-no_zero Exhausted e = omega arith
-no_zero BookTooLong e = omega arith
-no_zero BookDamaged e = omega arith
-no_zero SerialAhead e = omega arith
-no_zero SerialReused e = omega arith
-no_zero BookFull e = omega arith
-no_zero StrikeTooMany e = omega arith
-no_zero RedrawDiffers e = omega arith
-
 -- a call is accepted: its outcome is none of the refusals
 abbrev pub Accepted : {A : Type 0} → Outcome A → Type 0
 Accepted (drawn a u) = Unit
@@ -43,13 +23,13 @@ Accepted (refused n) = ⊥
 
 pub draw_accepted : (a : Answer) → ((plain (paper a)).refusal ≡ 0) ↔ Accepted (paper a)
 draw_accepted (Drawn d) = ((λ e. tt), (λ t. refl))
-draw_accepted (Refused x) = (no_zero x, (λ t. absurd t))
+draw_accepted (Refused x) = (never_zero x, (λ t. absurd t))
 
 pub strike_accepted : (a : Struck) → ((plain (struck a)).refusal ≡ 0) ↔ Accepted (struck a)
 strike_accepted (of-struck.Left n) = ((λ e. tt), (λ t. refl))
-strike_accepted (of-struck.Refused x) = (no_zero x, (λ t. absurd t))
+strike_accepted (of-struck.Refused x) = (never_zero x, (λ t. absurd t))
 
 pub redraw_accepted : (a : Redrawn) → ((of_redraw (redrawn a)).refusal ≡ 0) ↔ Accepted (redrawn a).outcome
 redraw_accepted (of-redrawn.Agrees n) = ((λ e. tt), (λ t. refl))
 redraw_accepted (of-redrawn.Differs s) = ((λ e. omega arith), (λ t. absurd t))
-redraw_accepted (of-redrawn.Refused x) = (no_zero x, (λ t. absurd t))
+redraw_accepted (of-redrawn.Refused x) = (never_zero x, (λ t. absurd t))

@@ -1,0 +1,12 @@
+-- `banlothek_draw_hypergeometric` meets its contract: the draw of this kind of request is the kind's own. Assumes nothing.
+use Rattle.std.proofs.Common.{ap, ◌∙◌}
+use Rattle.kinds.specs.declared.Request.TheVariants.{Hypergeometric}
+use Rattle.banlothek.specs.Face.{plain}
+use Rattle.banlothek.proofs.Fits.{draw_fits}
+use Rattle.banlothek.proofs.banlothek_draw_hypergeometric.Goals as goal
+
+pub told-requires : goal.told-requires
+told-requires c = draw_fits (Hypergeometric c.args.total c.args.marked c.args.sample) c.args.tape.now _ c.sample.ensures
+
+pub returns : goal.returns
+returns c = c.told.ensures ∙ ap plain c.sample.ensures
