@@ -8,18 +8,20 @@ use native.Mathlib.Omega.{arith}
 use lib.ListN.{length, take}
 use lib.Seq.{length-take-le, take-length, take-take}
 use borrow.Author.Tests.{eq-eqb, ne_eqb, le-leb, lt-leb}
-use Rattle.bytes.specs.Bytes.{slice, index_of}
-use Rattle.numerals.specs.Split.{up_to}
+use Rattle.std.specs.List.{slice_range}
+use Rattle.numerals.specs.Split.{index_of, up_to}
 use Rattle.request_line.specs.declared.Line.TheVariants.{Unread}
 use Rattle.request_line.specs.Ends.{newline, carriage_return, before_newline, text_of, is_line}
 use Rattle.request_line.specs.Forms.{read_text, read_line}
 
 -- the first s of the first m bytes: what stands before it
-found_up_to : (s m i : ℕ) (l : List ℕ) → i ≡ 0 + index_of s (slice 0 m l) → i ≤ m → take i l ≡ up_to s (take m l)
-unfolding slice up_to
-found_up_to s m i l e h = sym (take-take i m l h) ∙ ap (λ (k : ℕ). take k (take m l)) (e ∙ zero-add (index_of s (take m l)))
+found_up_to : (s m i : ℕ) (l : List ℕ) → i ≡ 0 + index_of s (slice_range l 0 m) → i ≤ m → take i l ≡ up_to s (take m l)
+unfolding up_to
+found_up_to s m i l e h =
+    let f : i ≡ index_of s (take m l) = rw (zero-add, sub-zero) at e in
+    sym (take-take i m l h) ∙ ap (λ (k : ℕ). take k (take m l)) f
 
-module _ (l : List ℕ) (end : ℕ) (e : end ≡ 0 + index_of newline (slice 0 (length l) l)) (h : end ≤ length l) where
+module _ (l : List ℕ) (end : ℕ) (e : end ≡ 0 + index_of newline (slice_range l 0 (length l))) (h : end ≤ length l) where
   before_is : take end l ≡ before_newline l
   before_is = found_up_to newline (length l) end l e h ∙ ap (up_to newline) (take-length l)
 
@@ -32,7 +34,7 @@ module _ (l : List ℕ) (end : ℕ) (e : end ≡ 0 + index_of newline (slice 0 (
   not_ended n = rw (before_length, ne_eqb (end + 1) (length l) (λ q. n (omega arith)))
 
   -- the first carriage return before it, or the newline itself
-  module _ (stop : ℕ) (f : stop ≡ 0 + index_of carriage_return (slice 0 end l)) (k : stop ≤ end) where
+  module _ (stop : ℕ) (f : stop ≡ 0 + index_of carriage_return (slice_range l 0 end)) (k : stop ≤ end) where
     text_is : take stop l ≡ text_of l
     unfolding text_of
     text_is = found_up_to carriage_return end stop l f k ∙ ap (up_to carriage_return) before_is

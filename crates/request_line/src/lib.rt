@@ -9,9 +9,8 @@ ghost use Rattle.request_line.specs.Words.{same_text};
 ghost use Rattle.request_line.specs.Words as text;
 ghost use Rattle.request_line.specs.Forms.{any_strike_line, call_line, deliver_line, geometric_asked, is_form, poisson_asked, read_line, read_text, redraw_line, request_asked, strike_from_line, strike_line, tray_asked};
 
-use bytes::scan::find;
 use kinds::Request;
-use numerals::{Number, float_bits, whole_number};
+use numerals::{Number, find, float_bits, whole_number};
 use parted::{SPACE, start_of};
 
 // What a line asks for: a call; nothing, where it is passed over; or that it can't be read.

@@ -1,0 +1,12 @@
+-- `request_line::geometric` meets its contract: its parameter is read or not. Assumes nothing.
+use Rattle.std.proofs.Common.{sym, ◌∙◌}
+use Rattle.request_line.specs.Forms.{geometric_asked}
+use Rattle.request_line.proofs.geometric.Goals as goal
+
+pub returns-in-Unread : goal.returns-in-Unread
+unfolding geometric_asked
+returns-in-Unread c = rw (sym c.bits_at.ensures ∙ c.in-Unread.is)
+
+pub returns-in-Is : goal.returns-in-Is
+unfolding geometric_asked
+returns-in-Is c = rw (sym c.bits_at.ensures ∙ c.in-Is.is)

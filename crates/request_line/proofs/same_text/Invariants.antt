@@ -1,0 +1,10 @@
+-- What is left to compare from here decides.
+use Rattle.std.proofs.Common.{◌≡◌, ◌-◌, ◌≤◌, length, drop}
+use Rattle.request_line.specs.Words.{same_text}
+use Rattle.request_line.proofs.same_text.Given as goal
+
+abbrev pub invariant-loop-i : goal.invariant-loop-i
+invariant-loop-i l = (l.i ≤ length l.a) × (same_text (drop l.i l.a) (drop l.i l.b) ≡ same_text l.a l.b)
+
+abbrev pub decreases-loop-i : goal.decreases-loop-i
+decreases-loop-i l = length l.a - l.i
