@@ -19,6 +19,7 @@ pub(crate) const READ_BYTES: usize = 65_537;
 // The longest name of a book, so that `.new` fits after it.
 pub(crate) const MOST_NAME: usize = 4091;
 
+// These hold its name with `.new`.
 const NEXT_BYTES: usize = 4096;
 
 // What the book's file gave: so many bytes; or that it can't be read, or can't be made.
@@ -31,7 +32,7 @@ pub(crate) enum Kept {
 
 // ---- names
 
-// Puts the name of the book's next file at the front of `name`, and answers its length. `Counts` lets the check see by itself that
+// Puts the name of the book's next file at the front of `name`, and answers its length. Its clause lets the check see by itself that
 // `&name[..n]` lies within.
 fn next_name(path: &[u8], name: &mut [u8; NEXT_BYTES]) -> usize
     requires { length path.now ≤ 4091 }
@@ -74,7 +75,7 @@ fn sync_folder(rt: &impl Files, path: &[u8]) -> bool {
     }
 }
 
-// Writes a file whole, and waits until it is on the disk. It is closed at the end.
+// Writes a file whole, and waits until it is on the disk. It is closed at the end: the library tells of no failure there, where all was synced.
 fn write_synced(rt: &impl Files, path: &[u8], bytes: &[u8]) -> bool {
     let Ok(mut file) = open_overwrite(rt, path) else {
         return false;
