@@ -1,6 +1,6 @@
 -- Demand 2 for deliveries, strikes and redraws, proved. Assumes nothing.
-use mathlib.Core.Path.{◌≡◌, sym, ap, ◌∙◌}
-use mathlib.Core.Bool.{false, cond}
+use mathlib.Core.Path.{◌≡◌, sym, ap, ◌∙◌, subst}
+use mathlib.Core.Bool.{Bool, false, cond}
 use mathlib.Core.List.{List, [], ◌∷◌, ◌++◌}
 use mathlib.Core.Logic.{◌↔◌}
 use mathlib.Core.Option.{Option, none, some}
@@ -42,7 +42,8 @@ pub copy_refusals : {A : Type 0} (ws b : List ℕ) (es : List Entry) (s : ℕ) (
 unfolding deliver_refusals
 copy_refusals ws b es s r o e =
     let fs : List Condition = fresh_refusals (drop (standing es).place ws) b (standing es).end r in
-    rw (e, none_given (when_next false fs) o (copy_unrefused fs))
+    let none : NoneHolds (when_next (is_next (length es) s) fs) = subst (λ (x : Bool). NoneHolds (when_next x fs)) (sym e) (copy_unrefused fs) in
+    rw (none_given (when_next (is_next (length es) s) fs) o none)
 
 delivery_demanded : (ws b : List ℕ) (s : ℕ) (r : Request) (a : Delivered) (c : List ℕ) → DeliverAllows ws b s r a c → DeliverDemanded ws b s r a c
 unfolding deliver deliver_to

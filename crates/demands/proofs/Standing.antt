@@ -1,6 +1,6 @@
 -- Entries that stand in a book, and all that a delivery and a strike can do to it (`deliver_by`, `strike_by`). Assumes nothing.
-use mathlib.Core.Path.{◌≡◌, refl, sym, ap, ◌∙◌}
-use mathlib.Core.Bool.{false}
+use mathlib.Core.Path.{◌≡◌, refl, sym, ap, ◌∙◌, subst}
+use mathlib.Core.Bool.{Bool, false}
 use mathlib.Core.List.{List, [], ◌∷◌, ◌++◌}
 use mathlib.Core.Logic.{◌↔◌}
 use Prim.Native.Nat.{ℕ, suc, ◌+◌, ◌-◌, ◌<◌, ◌≤◌}
@@ -32,7 +32,7 @@ use Rattle.layout.proofs.Changing.{chain_snoc, append_encode, wiped_encode}
 use Rattle.layout.proofs.Positions.{length_all_append, used_all_append, length_one, used_one, chain_left, chain_mid}
 use Rattle.opening.specs.Calls.{Call, call, booked, limits}
 use Rattle.layout.specs.Standing.{standing}
-use Rattle.book.specs.Deliver.{Booking, fresh, copy, is_next, is_ahead, booked_at, is_reused, is_full, fresh_refusals, deliver_refusals, freshly, copied, delivery, delivering, deliver_to, deliver}
+use Rattle.book.specs.Deliver.{Booking, fresh, copy, is_next, is_ahead, booked_at, is_reused, is_full, when_next, fresh_refusals, deliver_refusals, freshly, copied, delivery, delivering, deliver_to, deliver}
 use Rattle.book.specs.Inner.{fresh_delivery}
 use Rattle.book.specs.Strike.{strike_refusals, left_by, striking, strike_in, strike}
 use Rattle.opening.proofs.Opening.{opens}
@@ -208,12 +208,12 @@ module _ (ws : List ℕ) (n : ℕ) (within : length ws ≤ most_words) (small : 
     pub deliver_by : P (deliver ws (encode n es) s r)
     unfolding deliver deliver_to deliver_refusals delivery
     deliver_by =
-        rw found.1
+        subst (λ (x : List Entry). P (deliver_to ws b x s r)) (sym found.1)
         (by_given by (deliver_refusals ws b es s r) (delivery ws es s r) refuses
         (λ h.
         let rest = h.1.1.1 in
         by-test by (is_next (length es) s)
-        (λ t. fresh_by (eqb-true s (length es + 1) t) (rw (t, book.next_asked asked) at rest.1.1))
+        (λ t. fresh_by (eqb-true s (length es + 1) t) (subst NoneHolds (ap (λ (x : Bool). when_next x asked) t ∙ book.next_asked asked) rest.1.1))
         (λ t. copy_by t rest.0 rest.1.0)))
 
   -- What a strike can do: refuse by the condition that holds first, or leave all but the last j entries.
