@@ -7,7 +7,7 @@ ghost use Rattle.std.specs.Prelude.{◌≡◌, [], ◌∷◌};
 ghost use Rattle.std.specs.Float.{binary64};
 ghost use Rattle.std.specs.Float.Ieee.{of_bits};
 ghost use Rattle.words.specs.Draw.{DrawAllows};
-ghost use Rattle.kinds.specs.declared.Request.TheVariants.{Hypergeometric, Poisson, Geometric, StandardGeometric, Quarters};
+ghost use Rattle.kinds.specs.declared.Request.TheVariants.{Hypergeometric, Poisson, Geometric, StandardGeometric};
 ghost use Rattle.poisson.specs.Poisson.{poisson};
 ghost use Rattle.quarters.specs.Quarters.{quarters};
 ghost use Rattle.geometric.specs.Geometric.{geometric};
@@ -152,12 +152,6 @@ fn c_draw_standard_geometric(tape: &[u64]) -> BanlothekAnswer
     ensures { DrawTells StandardGeometric tape.now result }
 {
     banlothek::banlothek_draw_standard_geometric(tape)
-}
-
-fn c_draw_quarters(tape: &[u64], j: u64) -> BanlothekAnswer
-    ensures { DrawTells (Quarters «j») tape.now result }
-{
-    banlothek::banlothek_draw_quarters(tape, j)
 }
 
 fn c_deliver(
