@@ -41,6 +41,7 @@ pub fn write_le(bytes: &mut [u8], at: usize, width: usize, number: u64)
 }
 
 // Whether every byte from `from` on is 0. No caller knows more of it than this contract.
+#[tactic(auto, using(crate::proofs::Zeros::zero_yes, crate::proofs::Zeros::zero_no, crate::proofs::Zeros::zero_all))]
 pub fn all_zero(bytes: &[u8], from: usize) -> bool
     requires { from ≤ length bytes.now }
     ensures { result ≡ all_zero (drop from bytes.now) }

@@ -1,6 +1,6 @@
 -- Laws of spaces counted, and of texts compared. Assumes nothing.
 use mathlib.Core.Path.{◌≡◌, refl, sym, ap, ap₂, ◌∙◌}
-use mathlib.Core.Bool.{true, false, cond, and-false}
+use mathlib.Core.Bool.{false, cond, and-false}
 use mathlib.Core.List.{List, [], ◌∷◌}
 use Prim.Native.Nat.{ℕ, suc, ◌+◌, ◌-◌, ◌≤◌, ◌<◌}
 use native.Mathlib.Nat.{zero-add}
@@ -41,7 +41,7 @@ words_counted l k h =
     let n : suc (k - 1) ≡ k = omega arith in
     sym (eqb-suc-suc (spaces l) (k - 1)) ∙ ap₂ eqb (sym (add-one (spaces l))) n
 
--- ---- a turn of the loop that compares
+-- ---- two texts compared
 
 -- texts of two lengths differ
 pub lengths_differ : (a b : List ℕ) → (length a ≡ length b → ⊥) → same_text a b ≡ false
@@ -49,17 +49,3 @@ lengths_differ [] [] h = absurd (h refl)
 lengths_differ [] (y ∷ ys) h = refl
 lengths_differ (x ∷ xs) [] h = refl
 lengths_differ (x ∷ xs) (y ∷ ys) h = rw (lengths_differ xs ys (λ e. h (ap suc e)), and-false)
-
-module _ (a b : List ℕ) (i : ℕ) where
-  module _ (h : i < length a) (k : i < length b) where
-    -- the same byte in both leaves it to the rest
-    pub byte_same : get_or a i 0 ≡ get_or b i 0 → same_text (drop i a) (drop i b) ≡ same_text (drop (i + 1) a) (drop (i + 1) b)
-    byte_same e = rw (drop-cons a i 0 h, drop-cons b i 0 k, eq-eqb (get_or a i 0) (get_or b i 0) e, add-one)
-
-    -- two bytes that differ decide
-    pub byte_differs : (get_or a i 0 ≡ get_or b i 0 → ⊥) → same_text (drop i a) (drop i b) ≡ false
-    byte_differs e = rw (drop-cons a i 0 h, drop-cons b i 0 k, ne_eqb (get_or a i 0) (get_or b i 0) e)
-
-  -- at the end of both no byte differed
-  pub bytes_end : length a ≤ i → length b ≤ i → same_text (drop i a) (drop i b) ≡ true
-  bytes_end h k = rw (drop_of_length-le a h, drop_of_length-le b k)

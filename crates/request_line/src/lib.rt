@@ -253,6 +253,7 @@ fn call(line: &[u8]) -> Line
 }
 
 // Reads the text of a line, what stands before its end.
+#[tactic(auto, unfolding(crate::specs::Forms::read_text, crate::specs::Forms::is_passed))]
 fn text(line: &[u8]) -> Line
     ensures { result ≡ read_text line.now }
 {

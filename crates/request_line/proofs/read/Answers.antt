@@ -1,5 +1,5 @@
 -- `request_line::read` meets its contract: the line's end, and then its text. Assumes nothing.
-use Rattle.std.proofs.Common.{sym, ◌∙◌}
+use Rattle.std.proofs.Common.{arith, sym, ◌∙◌}
 use Rattle.request_line.proofs.Ending.{not_ended, not_bare, read_text_lem}
 use Rattle.request_line.proofs.read.Goals as goal
 
@@ -17,4 +17,4 @@ returns c =
     c.text.ensures
     ∙ sym
     (read_text_lem _ c.find-end.result c.find-end.ensures.0 c.find-end.ensures.1 c.find-stop.result c.find-stop.ensures.0 c.find-stop.ensures.1
-    c.if-line-end-ne1.false c.if-end-stop-gt1.false)
+    (omega arith) (omega arith))
