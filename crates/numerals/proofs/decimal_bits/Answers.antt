@@ -36,7 +36,7 @@ module _ (text : List ℕ) (stop : ℕ) (e : stop ≡ 0 + index_of point (slice_
 
 pub nearest-requires : goal.nearest-requires
 nearest-requires c =
-    let small : c.in-Is.whole ≤ most_whole = number_within 10 most_whole c.in-Is.whole _ (sym c.digits.ensures ∙ c.in-Is.is) in
+    let small = number_within 10 _ c.in-Is.whole _ (sym c.digits.ensures ∙ c.in-Is.is) in
     search rules
 
 pub returns-then-stop-text : goal.returns-then-stop-text
@@ -50,8 +50,7 @@ returns-then-stop-text c =
 
 pub with_places-requires : goal.with_places-requires
 with_places-requires c =
-    let small : c.in-Is.whole ≤ most_whole = number_within 10 most_whole c.in-Is.whole _ (sym c.digits.ensures ∙ c.in-Is.is) in
-    omega arith
+    omega (arith, number_within 10 _ c.in-Is.whole _ (sym c.digits.ensures ∙ c.in-Is.is))
 
 pub returns-in-Unread : goal.returns-in-Unread
 returns-in-Unread c =
