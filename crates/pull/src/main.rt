@@ -1,8 +1,8 @@
 // The pull service: answers each line of standard input by a line, over a tape and a book that are files.
 #![tactic(auto)]
 
+mod answering;
 mod files;
-mod lines;
 mod store;
 mod tape;
 
@@ -33,7 +33,7 @@ fn serve<R: Env + Files + Print, I: Read>(rt: &R, input: &mut I, tape: &[u64]) {
     match store::load(rt, &name[..length], &mut book) {
         Kept::Unread => say(rt, b"unread book\n"),
         Kept::Unwritten => say(rt, b"unwritten\n"),
-        Kept::Bytes(n) => lines::answer_all(rt, input, tape, &mut book[..n], &name[..length]),
+        Kept::Bytes(n) => answering::answer_all(rt, input, tape, &mut book[..n], &name[..length]),
     }
 }
 
