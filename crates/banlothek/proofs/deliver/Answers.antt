@@ -1,6 +1,5 @@
 -- `deliver` meets its contract: the struct has what the delivery came to, and the book is as the delivery left it. Assumes nothing.
 use Rattle.std.proofs.Common.{◌≡◌, ℕ, List, sym, ap, ◌∙◌, rules}
-use Rattle.bytes_le.proofs.Numbers.{Bytes}
 use Rattle.book.specs.declared.Delivered.{Delivered}
 use Rattle.opening.specs.Calls.{Call, call}
 use Rattle.book.specs.Deliver.{Booking, delivered}

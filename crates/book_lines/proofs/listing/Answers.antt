@@ -1,6 +1,5 @@
 -- `book_lines::listing` meets its contract: the book is too long, or damaged, or its entries are listed. Assumes nothing.
-use Rattle.std.proofs.Common.{◌≡◌, List, sym, ◌∙◌, arith, false, ℕ}
-use Rattle.layout.specs.Book.{book_too_long}
+use Rattle.std.proofs.Common.{sym, ◌∙◌, arith}
 use Rattle.book_lines.proofs.Listed.{entries_few, listing_long, listing_damaged, listing_sound, listing_listed}
 use Rattle.book_lines.proofs.listing.Goals as goal
 

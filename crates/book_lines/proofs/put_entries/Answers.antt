@@ -1,11 +1,9 @@
 -- `book_lines::put_entries` meets its contract: the lines of the entries left, written from here on, leave the lines of all. Assumes nothing.
-use Rattle.std.proofs.Common.{◌≡◌, ℕ, ◌+◌, ◌*◌, ◌≤◌, ◌<◌, List, length, refl, ◌∙◌, arith, rules}
-use Rattle.words.specs.Refusals.{NoneHolds}
+use Rattle.std.proofs.Common.{◌<◌, length, refl, ◌∙◌, arith, rules}
 use Rattle.bytes_le.proofs.Numbers.{Bytes}
 use Rattle.layout.specs.Sound.{offset}
 use Rattle.layout.proofs.Walking.{offset_next}
-use Rattle.writing.specs.Writing.{Writes}
-use Rattle.book_lines.specs.Listing.{entries_in, entry_line, entry_lines, listing_refusals}
+use Rattle.book_lines.specs.Listing.{entries_in}
 use Rattle.book_lines.proofs.Listed.{entry_whole, entry_next, entry_room, lines_turn, lines_done}
 use Rattle.book_lines.proofs.put_entries.Goals as goal
 

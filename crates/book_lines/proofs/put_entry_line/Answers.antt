@@ -1,6 +1,5 @@
 -- `book_lines::put_entry_line` meets its contract: the five numbers, one by one. Assumes nothing.
-use Rattle.std.proofs.Common.{◌≡◌, ℕ, ◌+◌, length, ap, arith}
-use Rattle.kinds.specs.Kinds.{kind_number}
+use Rattle.std.proofs.Common.{◌≡◌, ℕ, length, ap, arith}
 use Rattle.writing.specs.Digits.{decimal}
 use Rattle.writing.proofs.Writing.{written_next}
 use Rattle.lines.proofs.Lines.{word_next, last_words, number_place}
