@@ -1,12 +1,12 @@
 -- Laws of little-endian numbers, one for every width: what was written is read, and what was read is written. Assumes nothing.
 use mathlib.Core.Path.{◌≡◌, refl, ap, ap₂, ◌∙◌}
-use mathlib.Core.List.{List, [], ◌∷◌, ◌++◌}
+use mathlib.Core.List.{List, [], ◌∷◌, ◌++◌, append-nil}
 use Prim.Native.Nat.{ℕ, zero, suc, ◌+◌, ◌*◌, ◌-◌, ◌/◌, ◌%◌, ◌^◌, ◌<◌, ◌≤◌}
 use native.Mathlib.Nat.{pow-succ', mod-add-div, le_of_suc-le-suc, not-suc-le-zero, add-zero, lt_of_lt_of_le, pow-le-pow_right}
 use native.Mathlib.Numerals.{add-one}
 use native.Mathlib.Omega.{arith}
 use lib.ListN.{get_or, drop, take, length, replicate, set}
-use lib.Seq.{get_or-drop, drop-drop, sets}
+use lib.Seq.{get_or-drop, drop-drop, sets, take-suc-set, take-length, append_snoc}
 use Rattle.bytes_le.specs.LittleEndian.{bytes_of, spelled, words_from}
 
 -- each value is a byte's
@@ -78,17 +78,19 @@ module _ (l : List ℕ) (k at : ℕ) where
 
 -- ---- a turn of the loop that writes
 
-pub write_turn : (l : List ℕ) (k at i v : ℕ) → i < k
-    → sets (set l (at + i) (v % 256)) (at + (i + 1)) (bytes_of (k - (i + 1)) (v / 256)) ≡ sets l (at + i) (bytes_of (k - i) v)
+pub write_turn : (l : List ℕ) (k i v : ℕ) → i < k → length l ≡ k
+    → take (i + 1) (set l i (v % 256)) ++ bytes_of (k - (i + 1)) (v / 256) ≡ take i l ++ bytes_of (k - i) v
 unfolding bytes_of
-write_turn l k at i v h =
+write_turn l k i v h e =
     let n : k - i ≡ suc (k - (i + 1)) = omega arith in
-    let a : at + (i + 1) ≡ suc (at + i) = omega arith in
-    rw (n, a)
+    rw (n, add-one i, take-suc-set l i (v % 256) (omega arith)) (append_snoc (take i l) (v % 256) (bytes_of (k - suc i) (v / 256)))
 
-pub write_done : (l d : List ℕ) (k at i v : ℕ) → i ≤ k → k ≤ i → sets l (at + i) (bytes_of (k - i) v) ≡ d → l ≡ d
+pub write_done : (l d : List ℕ) (k i v : ℕ) → length l ≡ k → i ≡ k → take i l ++ bytes_of (k - i) v ≡ d → l ≡ d
 unfolding bytes_of
-write_done l d k at i v h h' e = let n : k - i ≡ 0 = omega arith in rw n at e
+write_done l d k i v e h w =
+    let n : k - i ≡ 0 = omega arith in
+    let whole : i ≡ length l = omega arith in
+    rw (n, append-nil, whole, take-length l) at w
 
 -- ---- words one after another
 
