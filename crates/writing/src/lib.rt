@@ -5,24 +5,22 @@ ghost use Rattle.std.specs.Prelude.{[], ◌∷◌, ◌+◌, ◌≤◌, ◌<◌, 
 ghost use Rattle.writing.specs.Digits.{decimal};
 ghost use Rattle.writing.specs.Writing.{Writes};
 
-// Writes a text from `at` on, and answers the place after it.
+// Writes a text from `at` on, and answers the place after it. (Here and in the crates above bytes and place are two parameters, and no struct of
+// both: `Writes`, which the documents name, speaks of each of them.)
 pub fn put_text(out: &mut [u8], at: usize, text: &[u8]) -> usize
     requires { at + length text.now ≤ length out.old }
     ensures { Writes out.old at text.now out.new result }
 {
-    let mut i: usize = 0;
-    while i < text.len() {
-        out[at + i] = text[i];
-        i += 1;
-    }
-    at + i
+    let end = at + text.len();
+    out[at..end].copy_from_slice(text);
+    end
 }
 
 fn put_digit(out: &mut [u8], at: usize, digit: u64) -> usize
     requires { (at < length out.old) × (digit < 10) }
     ensures { Writes out.old at ((48 + digit) ∷ []) out.new result }
 {
-    out[at] = 48 + digit as u8;
+    out[at] = b'0' + digit as u8;
     at + 1
 }
 
