@@ -10,7 +10,7 @@ ghost use Rattle.entry.specs.Entry.{parameter_bytes, fixed_bytes, entry_bytes, c
 ghost use Rattle.entry.specs.Inner.{row_at, HasEntry};
 
 use bytes_le::{read_le, write_le};
-use kinds::{Request, Row, kind_of, length_of, parameters_by, parts_of, row_of};
+use kinds::{Parts, Request, Row, kind_of, length_of, parameters_by, row_of};
 
 // Where an entry's fixed fields stand, counted from its first byte. The length stands first.
 pub const KIND: usize = 2;
@@ -39,18 +39,21 @@ pub struct Entry {
 // ---- read
 
 // The parameter i of so many that stand from `at` on, and 0 past the last.
+#[tactic(auto, using(crate::proofs::Entries::word_read, crate::proofs::Entries::none_left))]
 fn parameter_at(book: &[u8], at: usize, parameters: u64, i: u64) -> u64
     requires { at + 8 * parameters ≤ length book.now }
     ensures { result ≡ get_or (words_from parameters (drop at book.now)) i 0 }
 {
     if i < parameters {
-        return read_le(book, at + 8 * (i as usize), 8);
+        read_le(book, at + 8 * (i as usize), 8)
+    } else {
+        0
     }
-    0
 }
 
-// What the table has for the entry at `at`: its request, if its kind is one of the table's.
-fn row_at(book: &[u8], at: usize) -> Row
+// What the table has for the entry at `at`: its request, if its kind is one of the table's. (Three reads and no loop, as in `put_parameters`.)
+#[tactic(auto, using(crate::proofs::Entries::kind_small, crate::proofs::Entries::fixed_room, crate::proofs::Entries::parameters_room, crate::proofs::Entries::row_read))]
+fn row_at(book: &[u8], at: usize) -> Option<Row>
     requires { HasEntry book.now at }
     ensures { result ≡ row_at fixed_length book.now at }
 {
@@ -71,53 +74,32 @@ fn count_at(book: &[u8], at: usize) -> u64
 }
 
 // The entry at `at`.
+#[tactic(auto, using(crate::proofs::Entries::fixed_room, crate::proofs::Entries::entry_made))]
 pub fn entry_at(book: &[u8], at: usize) -> Entry
     requires { HasEntry book.now at }
     ensures { entry_at book.now at ≡ some result }
 {
-    let row = row_at(book, at);
-    let Row::Of {
-        length: _,
-        parameters: _,
-        request,
-    } = row
-    else {
-        return no_entry();
-    };
-    let serial = read_le(book, at + SERIAL, 4);
-    let place = read_le(book, at + PLACE, 4) as usize;
-    let used = read_le(book, at + USED, 4) as usize;
-    let count = count_at(book, at);
+    let row = row_at(book, at).unwrap();
     Entry {
-        request,
-        serial,
-        place,
-        used,
-        count,
-    }
-}
-
-// Stands where there is no entry to read. Nothing reaches it: an entry that lies whole has a kind of the table.
-fn no_entry() -> Entry {
-    Entry {
-        request: Request::StandardGeometric,
-        serial: 0,
-        place: 0,
-        used: 0,
-        count: 0,
+        request: row.request,
+        serial: read_le(book, at + SERIAL, 4),
+        place: read_le(book, at + PLACE, 4) as usize,
+        used: read_le(book, at + USED, 4) as usize,
+        count: count_at(book, at),
     }
 }
 
 // ---- written
 
 // The fields that every entry has.
+#[tactic(auto, using(crate::proofs::Writing::fixed_run))]
 fn put_fixed(book: &mut [u8], at: usize, entry: Entry)
     requires { at + fixed_length ≤ length book.old }
     ensures { book.new ≡ sets book.old at (fixed_bytes entry) }
 {
     let request = entry.request;
     write_le(book, at, 2, length_of(request));
-    write_le(book, at + KIND, 2, kind_of(request) as u64);
+    write_le(book, at + KIND, 2, u64::from(kind_of(request)));
     write_le(book, at + SERIAL, 4, entry.serial);
     write_le(book, at + PLACE, 4, entry.place as u64);
     write_le(book, at + USED, 4, entry.used as u64);
@@ -135,11 +117,12 @@ fn put_parameter(book: &mut [u8], at: usize, parameters: u64, i: u64, value: u64
 }
 
 // A request's parameters, one after another. (A loop over them becomes a call of memcpy, which costs more than the three tests.)
+#[tactic(auto, using(crate::proofs::Writing::parameters_run))]
 fn put_parameters(book: &mut [u8], at: usize, request: Request)
     requires { at + 8 * parameters_in (kind_of (kind_number request)) ≤ length book.old }
     ensures { book.new ≡ sets book.old at (parameter_bytes (parameters_of request)) }
 {
-    let parts = parts_of(request);
+    let parts = Parts::from(request);
     let parameters = parameters_by(parts.kind);
     put_parameter(book, at, parameters, 0, parts.first);
     put_parameter(book, at, parameters, 1, parts.second);
@@ -147,6 +130,7 @@ fn put_parameters(book: &mut [u8], at: usize, request: Request)
 }
 
 // Writes an entry's bytes from `at` on, and no other byte.
+#[tactic(auto, using(crate::proofs::Entries::request_room, crate::proofs::Writing::entry_run))]
 pub fn put_entry(book: &mut [u8], at: usize, entry: Entry)
     requires { at + length_of entry.request ≤ length book.old }
     ensures { book.new ≡ sets book.old at (entry_bytes entry) }
