@@ -7,8 +7,8 @@ use Rattle.hypergeometric.specs.Inner.{Lands}
 use Rattle.hypergeometric.proofs.Reducing.{marked_lands}
 use Rattle.hypergeometric.proofs.reduce.Goals as goal
 
-pub land-offset-requires : goal.land-offset-requires
-land-offset-requires c =
+pub land-requires : goal.land-requires
+land-requires c =
     let a = c.args in
     subst (λ (r : Reduced). Lands r.sign r.offset r.n1) (sym c.by_marked-r.ensures)
     (marked_lands a.total_population_size a.population_with_feature a.sample_size (omega arith) c.if-sample_size-total_population_size.false)
@@ -17,7 +17,6 @@ pub returns-then-sample_size-total_population_size : goal.returns-then-sample_si
 unfolding reduction by_sample
 returns-then-sample_size-total_population_size c = simp (le-leb _ _ c.if-sample_size-total_population_size.true) c.by_marked-r.ensures
 
-pub returns-else-sample_size-total_population_size : goal.returns-else-sample_size-total_population_size
+pub returns : goal.returns
 unfolding reduction by_sample
-returns-else-sample_size-total_population_size c =
-    simp (lt-leb _ _ c.if-sample_size-total_population_size.false, ← c.by_marked-r.ensures, c.land-offset.ensures, c.flipped-sign.ensures)
+returns c = simp (lt-leb _ _ c.if-sample_size-total_population_size.false, ← c.by_marked-r.ensures, c.land.ensures, c.neg.ensures)
