@@ -6,7 +6,6 @@ ghost use Rattle.std.specs.Prelude.{◌≤◌};
 ghost use Rattle.hypergeometric.specs.SetUp.{FromSetUp};
 
 use hypergeometric::{Hypergeometric, SetUp};
-use input::Got;
 use words::Answer;
 
 const MOST_BYTES: usize = 4_096;
@@ -61,10 +60,10 @@ fn main(rt: HostRuntime) {
     let mut bytes = [0u8; MOST_BYTES];
     let mut case = [0u64; MOST_WORDS];
     match input::fill(&mut rt.stdin(), &mut bytes) {
-        Got::Failed => {
+        Err(_) => {
             let _ = rt.write_all(b"unread input\n");
         }
-        Got::Bytes(n) => {
+        Ok(n) => {
             let count = n / 8;
             bytes_le::read_words(&bytes, count, &mut case, 0);
             let _ = rt.print(draw_many(&case[..count]));

@@ -3,7 +3,6 @@ ghost use Rattle.std.specs.Prelude.{◌≤◌, length as size};
 
 use crate::say;
 use crate::store::replace;
-use input::{Got, read_some};
 use std::fs::Files;
 use std::io::Read;
 use std::num::wrapping_add_u64;
@@ -126,9 +125,9 @@ fn take_some<R: Files + Print, I: Read>(
     let mut chunk = [0u8; CHUNK_BYTES];
     let number = reading.number;
     let length = reading.length;
-    match read_some(input, &mut chunk) {
-        Got::Failed => say(rt, b"unread input\n"),
-        Got::Bytes(n) => {
+    match input.read(&mut chunk) {
+        Err(_) => say(rt, b"unread input\n"),
+        Ok(n) => {
             if n != 0 {
                 return take_bytes(rt, tape, book, path, line, reading, &chunk[..n]);
             }

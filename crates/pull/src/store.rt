@@ -5,7 +5,7 @@ ghost use Rattle.pull.specs.Inner.{KeptWithin};
 
 use crate::files::{create, open_overwrite, open_read, rename};
 use bytes_le::all_zero;
-use input::{Got, fill};
+use input::fill;
 use std::fs::{Files, OpenFile};
 use std::io;
 use std::io::{ErrorKind, Write};
@@ -134,7 +134,7 @@ fn finish_making(rt: &impl Files, path: &[u8], book: &mut [u8]) -> Kept
     };
     let got = fill(&mut file, book);
     drop(file);
-    let Got::Bytes(length) = got else {
+    let Ok(length) = got else {
         return Kept::Bytes(0);
     };
     if length != BOOK_BYTES {
@@ -175,8 +175,8 @@ pub(crate) fn load(rt: &impl Files, path: &[u8], book: &mut [u8]) -> Kept
     let got = fill(&mut file, book);
     drop(file);
     match got {
-        Got::Failed => Kept::Unread,
-        Got::Bytes(n) => {
+        Err(_) => Kept::Unread,
+        Ok(n) => {
             if n == 0 {
                 return finish_making(rt, path, book);
             }

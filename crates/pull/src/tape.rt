@@ -4,7 +4,7 @@ ghost use Rattle.pull.specs.Inner.{LoadedWithin, TakenWithin};
 
 use crate::files::open_read;
 use bytes_le::read_words;
-use input::{Got, fill};
+use input::fill;
 use std::env::Env;
 use std::fs::Files;
 use std::io::Read;
@@ -41,8 +41,8 @@ fn take_part<F: Read>(file: &mut F, tape: &mut [u64], words: usize) -> Taken
 {
     let mut chunk = [0u8; CHUNK_BYTES];
     match fill(file, &mut chunk) {
-        Got::Failed => Taken::Unread,
-        Got::Bytes(n) => {
+        Err(_) => Taken::Unread,
+        Ok(n) => {
             if tape.len() - words < (n + 7) / 8 {
                 return Taken::TooLong;
             }

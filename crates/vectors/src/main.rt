@@ -10,7 +10,6 @@ mod single;
 mod tally;
 mod tell;
 
-use input::Got;
 use std::io::Read;
 use tally::TALLY;
 
@@ -32,8 +31,8 @@ fn take_block<R: Read>(rt: &impl Print, reader: &mut R, tally: &mut [u64; TALLY]
     let mut bytes = [0u8; BLOCK_BYTES];
     let mut words = [0u64; BLOCK_WORDS];
     match input::fill(reader, &mut bytes) {
-        Got::Failed => Block::Unread,
-        Got::Bytes(n) => {
+        Err(_) => Block::Unread,
+        Ok(n) => {
             if n == 0 {
                 return Block::End;
             }
