@@ -7,6 +7,7 @@ use Rattle.words.proofs.Tape.{within_limit}
 use Rattle.words.specs.Draw.{shorts, draw}
 use Rattle.words.proofs.Short.{ends_same}
 use Rattle.geometric.specs.Geometric.{is_probability, is_too_rare, geometric_reading, geometric}
+use Rattle.geometric.proofs.sample.Goals.{else-p-via-then-p+else-p-2, else-p-via-else-p}
 use Rattle.geometric.proofs.sample.Goals as goal
 
 pub returns-then-too_long : goal.returns-then-too_long
@@ -25,10 +26,11 @@ returns-then-p-2 c =
     ∙ simp (within, c.if-p.true, c.if-p-2.true)
     (ap (λ o. given (9 on is_too_rare a.p ∷ []) o) (sym (ends_same shorts (geometric_reading a.p a.tape.now))))
 
-pub returns-else-p-2 : goal.returns-else-p-2
+pub returns : goal.returns
 unfolding draw geometric is_probability of_bits round
-returns-else-p-2 c = simp (sym c.too_long.ensures ∙ c.if-too_long.false, c.if-p.true, c.if-p-2.false)
-
-pub returns-else-p : goal.returns-else-p
-unfolding draw geometric is_probability of_bits round
-returns-else-p c = simp (sym c.too_long.ensures ∙ c.if-too_long.false, c.if-p.false)
+returns c =
+    let within : too_long c.args.tape.now ≡ false = sym c.too_long.ensures ∙ c.if-too_long.false in
+    elim c.else-p.branch [
+      | else-p-via-then-p+else-p-2 w ↦ simp (within, w.if-p.true, w.if-p-2.false)
+      | else-p-via-else-p w ↦ simp (within, w.if-p.false)
+    ]

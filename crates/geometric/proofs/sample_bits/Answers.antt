@@ -38,8 +38,7 @@ returns-then-p-eq-MINUS_ZERO c =
     let a = c.args in
     let z = c.if-p-eq-MINUS_ZERO.true in
     let within : too_long a.tape.now ≡ false = sym c.too_long.ensures ∙ c.if-too_long.false in
-    c.never.ensures
-    ∙ simp (within, sign_probability a.p z, sign_not_rare a.p z, sign_never a.p a.tape.now z) (sym (ends_same shorts (drawn (2 ^ 64 - 1) 0)))
+    simp (within, sign_probability a.p z, sign_not_rare a.p z, sign_never a.p a.tape.now z) (sym (ends_same shorts (drawn (2 ^ 64 - 1) 0)))
 
 pub returns : goal.returns
 unfolding draw geometric

@@ -7,6 +7,7 @@ use Rattle.words.proofs.Patterns.{float_of_bits}
 use Rattle.words.proofs.Short.{ends_same}
 use Rattle.poisson.specs.Poisson.{knuth_rule, poisson}
 use Rattle.poisson.proofs.Range.{bits_inside, bits_below, bits_above}
+use Rattle.poisson.proofs.sample_bits.Goals.{else-exp_lambda-ge-LOWEST-via-then-exp_lambda-ge-LOWEST+else-exp_lambda-le-HIGHEST, else-exp_lambda-ge-LOWEST-via-else-exp_lambda-ge-LOWEST}
 use Rattle.poisson.proofs.sample_bits.Goals as goal
 
 pub returns-then-too_long : goal.returns-then-too_long
@@ -23,11 +24,12 @@ returns-then-exp_lambda-le-HIGHEST c =
     ∙ simp (sym c.too_long.ensures ∙ c.if-too_long.false, bits_inside c.args.exp_lambda (omega arith) (omega arith))
     (sym (ends_same shorts (reading (knuth_rule (of_bits binary64 c.args.exp_lambda)) c.args.tape.now)))
 
-pub returns-else-exp_lambda-le-HIGHEST : goal.returns-else-exp_lambda-le-HIGHEST
+pub returns : goal.returns
 unfolding draw poisson
-returns-else-exp_lambda-le-HIGHEST c =
-    simp (sym c.too_long.ensures ∙ c.if-too_long.false, bits_above c.args.exp_lambda (omega arith) (omega arith))
-
-pub returns-else-exp_lambda-ge-LOWEST : goal.returns-else-exp_lambda-ge-LOWEST
-unfolding draw poisson
-returns-else-exp_lambda-ge-LOWEST c = simp (sym c.too_long.ensures ∙ c.if-too_long.false, bits_below c.args.exp_lambda (omega arith))
+returns c =
+    let within = sym c.too_long.ensures ∙ c.if-too_long.false in
+    elim c.else-exp_lambda-ge-LOWEST.branch [
+      | else-exp_lambda-ge-LOWEST-via-then-exp_lambda-ge-LOWEST+else-exp_lambda-le-HIGHEST w ↦
+          simp (within, bits_above c.args.exp_lambda (omega arith) (omega arith))
+      | else-exp_lambda-ge-LOWEST-via-else-exp_lambda-ge-LOWEST w ↦ simp (within, bits_below c.args.exp_lambda (omega arith))
+    ]
