@@ -15,7 +15,8 @@ use Rattle.words.proofs.Tape.{within_limit, limit_within}
 use Rattle.words.proofs.Exactly.{first_given, first_before, given_append, none_given, drawn_exactly, exactly}
 use Rattle.words.proofs.Reading.{refused_not_drawn}
 use Rattle.bytes_le.proofs.Numbers.{Bytes}
-use Rattle.layout.specs.declared.Walked.TheVariants.{Damaged, Sound}
+use Rattle.std.specs.Prelude.{None, Some}
+use Rattle.std.proofs.Common.{Fits, w8}
 use Rattle.entry.specs.declared.Entry.{Entry}
 use Rattle.entry.specs.Entry.{length_at, entry_at, blank}
 use Rattle.layout.specs.Book.{length_all, used_all, decode, most_bytes, book_too_long, is_none}
@@ -77,11 +78,11 @@ module _ (ws b : List ℕ) where
     opened_big g = rw (h, g)
 
     module _ (g : book_too_long b ≡ false) where
-      pub opened_damaged : Damaged ≡ walked (length ws) b → refused 12 ≡ opened ws b
+      pub opened_damaged : None ≡ walked (length ws) b → refused 12 ≡ opened ws b
       unfolding opened is_damaged_for
       opened_damaged e = rw (h, g, walked_damaged (length ws) b e)
 
-      pub opened_sound : (st : Standing) → Sound st ≡ walked (length ws) b → drawn st 0 ≡ opened ws b
+      pub opened_sound : (st : Standing) → Some st ≡ walked (length ws) b → drawn st 0 ≡ opened ws b
       unfolding opened book_too_long
       opened_sound st e =
           let t = walked_sound (length ws) b st e in
@@ -90,6 +91,8 @@ module _ (ws b : List ℕ) where
           (none_given (limits ws b) (drawn (standing (booked ws b)) 0) x.0
           ∙ ap (λ (es : List Entry). drawn (standing es) 0) x.1
           ∙ sym (ap (λ (s : Standing). drawn s 0) t.stands))
+
+  pub ruleset openings = (opened_long, opened_big, opened_damaged, opened_sound)
 
   -- ---- and what its answer tells
 
@@ -154,3 +157,47 @@ stands_room ws b st by o =
     let ei : length_all (booked ws b) ≡ st.end = ap (λ (x : Standing). x.end) o.1 in
     let ep : used_all (booked ws b) ≡ st.place = ap (λ (x : Standing). x.place) o.1 in
     (omega arith, omega arith, omega arith, open_book (length ws) b o.0)
+
+-- ---- and where they lie: of bytes that were lent, each of which fits
+
+module _ (ws b : List ℕ) (st : Standing) (fits : (i : ℕ) → Fits w8 (get_or b i 0)) (o : IsOpen ws b st) where
+  lent : Bytes b
+  lent i = (fits i).fits
+
+  number : length (booked ws b) ≡ st.entries
+  number = ap (λ (x : Standing). x.entries) o.1
+
+  -- they are few, they end within the book, and their words are on the tape
+  pub stands_few : st.entries ≤ most_bytes
+  stands_few = let r = stands_room ws b st lent o in omega (arith, r.2, r.3)
+
+  pub stands_within : st.end ≤ length b
+  stands_within = (stands_room ws b st lent o).0
+
+  pub stands_on_tape : st.place ≤ length ws
+  stands_on_tape = (stands_room ws b st lent o).1
+
+  -- the first k of them can be passed
+  pub stands_reach : (k : ℕ) → k ≤ st.entries → Reaches b k
+  stands_reach k l = open_reach (length ws) b lent o.0 k (omega (arith, number))
+
+  -- and the next begins where all end, or before that
+  pub stands_before : (k at : ℕ) → k ≤ st.entries → at ≡ offset b k → at ≤ st.end
+  stands_before k at l e =
+      omega (arith, open_within (length ws) b lent o.0 k (omega (arith, number)), ap (λ (x : Standing). x.end) o.1)
+
+  -- each lies whole
+  pub stands_whole : (k at : ℕ) → k < st.entries → at ≡ offset b k → HasEntry b at
+  stands_whole k at l e = rw e (open_whole (length ws) b lent o.0 k (omega (arith, number)))
+
+  -- with its place on the tape
+  pub stands_place : (k at : ℕ) (e : Entry) → k < st.entries → at ≡ offset b k → entry_at b at ≡ some e → e.place ≤ length ws
+  stands_place k at e l ea here =
+      rw (open_read (length ws) b lent o.0 k (omega (arith, number)) at e ea here) (open_place (length ws) b lent o.0 k (omega (arith, number)))
+
+  -- and the one after it begins within the book
+  pub stands_next : (k at : ℕ) → k < st.entries → at ≡ offset b k → (at + 2 ≤ length b) × (at + length_at b at ≤ length b)
+  stands_next k at l ea = open_next (length ws) b lent o.0 k (omega (arith, number)) at ea
+
+-- what every call's beginning gives it, for `grind`
+pub ruleset standings = (sound_opening, stands_few, stands_within, stands_on_tape, stands_reach, stands_before, stands_whole, stands_place, stands_next)
