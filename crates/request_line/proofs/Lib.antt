@@ -1,3 +1,2 @@
-pub mod Parting
-pub mod Ending
 pub mod Whole
+pub mod Ending
