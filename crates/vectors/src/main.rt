@@ -8,67 +8,46 @@ mod compare;
 mod kept;
 mod single;
 mod tally;
-mod tell;
 
+use cases::Unread;
 use std::io::Read;
-use tally::TALLY;
+use tally::Tally;
 
 // What is read at a time. No case goes over a block's end.
 const BLOCK_WORDS: usize = 8_192;
 
 const BLOCK_BYTES: usize = 65_536;
 
-// What came of a block: its cases are drawn again and there may be more, the input has ended, or nothing can be made of it.
-#[derive(Clone, Copy)]
-enum Block {
-    Drawn,
-    End,
-    Unread,
-}
-
-// Reads a block, and draws its cases again.
-fn take_block<R: Read>(rt: &impl Print, reader: &mut R, tally: &mut [u64; TALLY]) -> Block {
+// Reads a block, and draws its cases again. Whether there was one.
+fn take_block<R: Read, P: Print>(reader: &mut R, tally: &mut Tally<P>) -> Result<bool, Unread> {
     let mut bytes = [0u8; BLOCK_BYTES];
     let mut words = [0u64; BLOCK_WORDS];
-    match input::fill(reader, &mut bytes) {
-        Err(_) => Block::Unread,
-        Ok(n) => {
-            if n == 0 {
-                return Block::End;
-            }
-            if n % 8 != 0 {
-                return Block::Unread;
-            }
-            let count = n / 8;
-            bytes_le::read_words(&bytes, count, &mut words, 0);
-            if cases::draw_block(rt, &words[..count], tally) {
-                Block::Drawn
-            } else {
-                Block::Unread
-            }
-        }
+    let n = input::fill(reader, &mut bytes).map_err(|_| Unread)?;
+    if n % 8 != 0 {
+        return Err(Unread);
     }
+    let count = n / 8;
+    bytes_le::read_words(&bytes, count, &mut words, 0);
+    cases::draw_block(&words[..count], tally)?;
+    Ok(n > 0)
 }
 
-// Draws the cases of every block again. Whether all could be read. A proved loop has to end, so this one counts its turns, from a number
-// that no run uses up.
-fn draw_all<R: Read>(rt: &impl Print, reader: &mut R, tally: &mut [u64; TALLY]) -> bool {
-    let mut turns = u64::MAX;
-    while turns > 0 {
-        match take_block(rt, reader, tally) {
-            Block::Drawn => turns -= 1,
-            Block::End => return true,
-            Block::Unread => return false,
+// Draws the cases of every block again. A proved loop has to end, so this one has a number of turns that no run uses up.
+fn draw_all<R: Read, P: Print>(reader: &mut R, tally: &mut Tally<P>) -> Result<(), Unread> {
+    for _ in 0..u64::MAX {
+        if !take_block(reader, tally)? {
+            return Ok(());
         }
     }
-    false
+    Err(Unread)
 }
 
 fn main(rt: HostRuntime) {
-    let mut tally = [0u64; TALLY];
-    if draw_all(&rt, &mut rt.stdin(), &mut tally) {
-        tally::report(&rt, &tally);
-    } else {
-        let _ = rt.write_all(b"unread case\n");
+    let mut tally = Tally::new(&rt);
+    match draw_all(&mut rt.stdin(), &mut tally) {
+        Ok(()) => tally.report(),
+        Err(Unread) => {
+            let _ = println!(rt; "unread case");
+        }
     }
 }

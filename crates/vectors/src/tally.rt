@@ -1,20 +1,13 @@
-// Counts of cases by kind, agreement and entry.
-use crate::compare::as_said;
-use crate::tell::{say, say_number, tell, tell_fraction};
-use judge::{Said, Verdict};
+// Counts of cases by kind, agreement and entry, and what is written of those that differ.
+use crate::cases::Case;
+use crate::compare::compare;
+use judge::{Said, Verdict, as_marked};
+use kinds::Request;
+use std::fmt;
 use words::Answer;
 
-// The counters, in rows of 16: all cases first, then the cases of a kind at the kind's number; of these those that agree, at the kind's
-// number; those that an entry lists, at the entry's number; and the others.
-pub(crate) const TALLY: usize = 64;
-
+// Every kind's number is below this, and every entry's.
 const ROW: usize = 16;
-
-const AGREE: usize = 16;
-
-const ENTRY: usize = 32;
-
-const OTHERS: usize = 48;
 
 // A draw from a kept tray, past every kind's number.
 pub(crate) const KEPT: usize = 15;
@@ -25,85 +18,133 @@ const FRACTION: usize = 14;
 // So many that differ are written out.
 const FEW: u64 = 8;
 
-// Counts a case of a kind by its verdict. Of those that differ the first few are written out: the answer here, and the one that it is held
-// against after its name.
-pub(crate) fn note(
-    rt: &impl Print,
-    tally: &mut [u64; TALLY],
-    kind: usize,
-    verdict: Verdict,
-    here: Answer,
-    name: &[u8],
-    due: Said,
-) {
-    add(tally, 0, 0);
-    add(tally, 0, kind);
-    match verdict {
-        Verdict::Agrees => add(tally, AGREE, kind),
-        Verdict::Listed { entry } => add(tally, ENTRY, entry as usize),
-        Verdict::Differs => {
-            if tally[OTHERS] < FEW {
-                tell(rt, tally[0], kind, as_said(here), name, due);
+// The cases of a kind, and those of them that agree.
+#[derive(Clone, Copy)]
+struct Kind {
+    cases: u64,
+    agree: u64,
+}
+
+// All cases, those of each kind, those that each entry lists, and the others.
+#[derive(Drop)]
+pub(crate) struct Tally<'a, P> {
+    rt: &'a P,
+    cases: u64,
+    kinds: [Kind; ROW],
+    entries: [u64; ROW],
+    others: u64,
+}
+
+impl<'a, P: Print> Tally<'a, P> {
+    pub(crate) fn new(rt: &'a P) -> Tally<'a, P> {
+        Tally {
+            rt,
+            cases: 0,
+            kinds: [Kind { cases: 0, agree: 0 }; ROW],
+            entries: [0; ROW],
+            others: 0,
+        }
+    }
+
+    // Holds an answer here against what the Rust did, and the entry that the case is marked with.
+    pub(crate) fn hold(&mut self, case: Case<'_>, request: Request, kind: usize, here: Answer) {
+        let verdict = as_marked(case.entry, compare(request, here, case.rust));
+        self.note(kind, verdict, here, "rust", case.rust);
+    }
+
+    // Counts a case by its verdict. Of those that differ the first few are written out: the answer here, and the one that it is held against
+    // after its name.
+    pub(crate) fn note(
+        &mut self,
+        kind: usize,
+        verdict: Verdict,
+        here: Answer,
+        name: &str,
+        due: Said,
+    ) {
+        if let Some(case) = self.count(kind, verdict) {
+            let here = Told(here.map_err(u32::from));
+            let due = Told(due);
+            let _ = println!(self.rt; "differs: case {case} kind {kind} here {here} {name} {due}");
+        }
+    }
+
+    // Counts a fraction by its bits.
+    pub(crate) fn note_fraction(&mut self, here: u64, recorded: u64) {
+        let verdict = if here == recorded {
+            Verdict::Agrees
+        } else {
+            Verdict::Differs
+        };
+        if let Some(case) = self.count(FRACTION, verdict) {
+            let _ = println!(self.rt;
+                "differs: case {case} fraction here 0x{here:016x} recorded 0x{recorded:016x}"
+            );
+        }
+    }
+
+    // Counts a case of a kind by its verdict. Its number, where it is one of the few that are written out.
+    fn count(&mut self, kind: usize, verdict: Verdict) -> Option<u64> {
+        add(&mut self.cases);
+        if let Some(kind) = self.kinds.get_mut(kind) {
+            add(&mut kind.cases);
+            if verdict == Verdict::Agrees {
+                add(&mut kind.agree);
             }
-            add(tally, OTHERS, 0);
+        }
+        match verdict {
+            Verdict::Agrees => None,
+            Verdict::Listed { entry } => {
+                if let Some(listed) = self.entries.get_mut(entry as usize) {
+                    add(listed);
+                }
+                None
+            }
+            Verdict::Differs => {
+                let is_told = self.others < FEW;
+                add(&mut self.others);
+                is_told.then_some(self.cases)
+            }
+        }
+    }
+
+    // Writes all the counts, a line for each kind and each entry.
+    pub(crate) fn report(&self) {
+        self.report_kind("hypergeometric", 1);
+        self.report_kind("kept", KEPT);
+        self.report_kind("poisson", 2);
+        self.report_kind("geometric", 3);
+        self.report_kind("standard", 4);
+        self.report_kind("fraction", FRACTION);
+        for entry in [1, 4, 5, 9, 10] {
+            if let Some(listed) = self.entries.get(entry) {
+                let _ = println!(self.rt; "entry {entry} {listed}");
+            }
+        }
+        let _ = println!(self.rt; "cases {}", self.cases);
+        let _ = println!(self.rt; "others {}", self.others);
+    }
+
+    fn report_kind(&self, name: &str, kind: usize) {
+        if let Some(Kind { cases, agree }) = self.kinds.get(kind) {
+            let _ = println!(self.rt; "{name} {cases} agree {agree}");
         }
     }
 }
 
-// Counts a fraction by its bits.
-pub(crate) fn note_fraction(rt: &impl Print, tally: &mut [u64; TALLY], here: u64, recorded: u64) {
-    add(tally, 0, 0);
-    add(tally, 0, FRACTION);
-    if here == recorded {
-        add(tally, AGREE, FRACTION);
-    } else {
-        if tally[OTHERS] < FEW {
-            tell_fraction(rt, tally[0], here, recorded);
+fn add(counter: &mut u64) {
+    *counter = counter.wrapping_add(1);
+}
+
+// How an answer is written.
+#[derive(Drop)]
+struct Told(Said);
+
+impl fmt::Display for Told {
+    fn fmt<W: fmt::Write>(&self, f: &mut fmt::Formatter<W>) -> fmt::Result {
+        match self.0 {
+            Ok(draw) => write!(f, "{} used {}", draw.count, draw.used),
+            Err(number) => write!(f, "refused {number}"),
         }
-        add(tally, OTHERS, 0);
-    }
-}
-
-// Counts at a place of the row that begins there.
-fn add(tally: &mut [u64; TALLY], row: usize, place: usize) {
-    if row <= OTHERS {
-        if place < ROW {
-            let at = row + place;
-            tally[at] = std::num::wrapping_add_u64(tally[at], 1);
-        }
-    }
-}
-
-// Writes all the counts, a line for each kind and each entry.
-pub(crate) fn report(rt: &impl Print, tally: &[u64; TALLY]) {
-    say_kind(rt, b"hypergeometric", tally, 1);
-    say_kind(rt, b"kept", tally, KEPT);
-    say_kind(rt, b"poisson", tally, 2);
-    say_kind(rt, b"geometric", tally, 3);
-    say_kind(rt, b"standard", tally, 4);
-    say_kind(rt, b"fraction", tally, FRACTION);
-    say_count(rt, b"entry 1", tally, ENTRY + 1);
-    say_count(rt, b"entry 4", tally, ENTRY + 4);
-    say_count(rt, b"entry 5", tally, ENTRY + 5);
-    say_count(rt, b"entry 9", tally, ENTRY + 9);
-    say_count(rt, b"entry 10", tally, ENTRY + 10);
-    say_count(rt, b"cases", tally, 0);
-    say_count(rt, b"others", tally, OTHERS);
-}
-
-fn say_kind(rt: &impl Print, name: &[u8], tally: &[u64; TALLY], kind: usize) {
-    if kind < ROW {
-        say(rt, name);
-        say_number(rt, b" ", tally[kind]);
-        say_number(rt, b" agree ", tally[AGREE + kind]);
-        say(rt, b"\n");
-    }
-}
-
-fn say_count(rt: &impl Print, name: &[u8], tally: &[u64; TALLY], place: usize) {
-    if place < TALLY {
-        say(rt, name);
-        say_number(rt, b" ", tally[place]);
-        say(rt, b"\n");
     }
 }
