@@ -1,4 +1,4 @@
--- `input::fill` meets its contract: what was read so far lies within the buffer, and each turn adds to it. Assumes nothing.
+-- `input::fill` meets its contract: what was read so far is at the front of the buffer as it came, and each turn adds to it. Assumes nothing.
 use Rattle.std.proofs.Common.{length, take, ◌-◌, ◌≤◌}
 use Rattle.std.specs.Io.KnownBytes.{Consumes}
 use Rattle.input.proofs.fill.Given as goal
