@@ -1,9 +1,10 @@
--- The words of a text are its parts between spaces, one after another. Assumes nothing.
+-- The words of a text are its parts between spaces, one after another, and lie past the words before them. Assumes nothing.
 use mathlib.Core.Path.{◌≡◌, refl, sym, ap, ◌∙◌}
 use mathlib.Core.Bool.{true, false}
 use mathlib.Core.List.{List, [], ◌∷◌}
 use mathlib.Core.Logic.{⊎_elim}
-use Prim.Native.Nat.{ℕ, zero, suc}
+use Prim.Native.Nat.{ℕ, zero, suc, ◌+◌, ◌-◌, ◌≤◌, ◌<◌}
+use native.Mathlib.Omega.{arith}
 use native.Mathlib.Numerals.{one-add}
 use lib.Dec.{eqb}
 use lib.ListN.{get_or}
@@ -60,3 +61,13 @@ word_split (suc k) (x ∷ xs) =
     ⊎_elim (λ e. rw e (word_split k xs ∙ sym (word_after x xs k e)))
     (λ e. rw e (others_kept x (slice_split (λ x. eqb x space) xs) k ∙ word_split (suc k) xs ∙ sym (word_next x xs k e)))
     (cases_Bool (eqb x space))
+
+-- the next of the words that are left
+pub words_turn : (k i : ℕ) (l : List ℕ) → i < k → past_words (k - i) l ≡ past_words (k - (i + 1)) (past space l)
+unfolding past_words
+words_turn k i l h = let n : k - i ≡ suc (k - (i + 1)) = omega arith in rw n
+
+-- none is left
+pub words_end : (k i : ℕ) (l : List ℕ) → k ≤ i → past_words (k - i) l ≡ l
+unfolding past_words
+words_end k i l h = let n : k - i ≡ 0 = omega arith in rw n
