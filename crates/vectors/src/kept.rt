@@ -29,7 +29,7 @@ fn draw_ready<P: Print>(
     kept: Hypergeometric,
     tally: &mut Tally<P>,
 ) -> Result<(), Unread> {
-    // over no word it has to be refused: the tape has ended
+    // over no word it has to be refused: the tape has ended (tests/vectors lends one in a copy of this line)
     let tape = [0u64];
     let here = hypergeometric::sample_from(&tape[..0], kept);
     let due = Err(10);

@@ -44,10 +44,8 @@ fn draw_all<R: Read, P: Print>(reader: &mut R, tally: &mut Tally<P>) -> Result<(
 
 fn main(rt: HostRuntime) {
     let mut tally = Tally::new(&rt);
-    match draw_all(&mut rt.stdin(), &mut tally) {
+    let _ = match draw_all(&mut rt.stdin(), &mut tally) {
         Ok(()) => tally.report(),
-        Err(Unread) => {
-            let _ = println!(rt; "unread case");
-        }
-    }
+        Err(Unread) => println!(rt; "unread case"),
+    };
 }

@@ -1,9 +1,11 @@
 // Counts of cases by kind, agreement and entry, and what is written of those that differ.
+ghost use Rattle.std.specs.Prelude.{◌<◌};
+
 use crate::cases::Case;
 use crate::compare::compare;
 use judge::{Said, Verdict, as_marked};
 use kinds::Request;
-use std::fmt;
+use std::{fmt, io};
 use words::Answer;
 
 // Every kind's number is below this, and every entry's.
@@ -109,26 +111,26 @@ impl<'a, P: Print> Tally<'a, P> {
     }
 
     // Writes all the counts, a line for each kind and each entry.
-    pub(crate) fn report(&self) {
-        self.report_kind("hypergeometric", 1);
-        self.report_kind("kept", KEPT);
-        self.report_kind("poisson", 2);
-        self.report_kind("geometric", 3);
-        self.report_kind("standard", 4);
-        self.report_kind("fraction", FRACTION);
+    pub(crate) fn report(&self) -> io::Result<()> {
+        self.report_kind("hypergeometric", 1)?;
+        self.report_kind("kept", KEPT)?;
+        self.report_kind("poisson", 2)?;
+        self.report_kind("geometric", 3)?;
+        self.report_kind("standard", 4)?;
+        self.report_kind("fraction", FRACTION)?;
         for entry in [1, 4, 5, 9, 10] {
-            if let Some(listed) = self.entries.get(entry) {
-                let _ = println!(self.rt; "entry {entry} {listed}");
-            }
+            let listed = self.entries[entry];
+            println!(self.rt; "entry {entry} {listed}")?;
         }
-        let _ = println!(self.rt; "cases {}", self.cases);
-        let _ = println!(self.rt; "others {}", self.others);
+        println!(self.rt; "cases {}", self.cases)?;
+        println!(self.rt; "others {}", self.others)
     }
 
-    fn report_kind(&self, name: &str, kind: usize) {
-        if let Some(Kind { cases, agree }) = self.kinds.get(kind) {
-            let _ = println!(self.rt; "{name} {cases} agree {agree}");
-        }
+    fn report_kind(&self, name: &str, kind: usize) -> io::Result<()>
+        requires { kind < 16 }
+    {
+        let Kind { cases, agree } = self.kinds[kind];
+        println!(self.rt; "{name} {cases} agree {agree}")
     }
 }
 
