@@ -3,7 +3,7 @@
 
 ghost use Rattle.std.specs.Prelude.{◌≡◌};
 ghost use Rattle.request_line.specs.Words.{words};
-ghost use Rattle.request_line.specs.Forms.{any_strike_line, call_line, deliver_line, is_form, read_line, read_text, redraw_line, request_asked, strike_from_line, strike_line, tray_asked};
+ghost use Rattle.request_line.specs.Forms.{any_strike_line, call_line, deliver_line, read_line, read_text, redraw_line, request_asked, strike_from_line, strike_line, tray_asked};
 
 use kinds::Request;
 use numerals::{float_bits, whole_number};
@@ -35,13 +35,6 @@ fn words(line: &[u8]) -> usize
     line.split(|byte| *byte == SPACE).count()
 }
 
-// Whether the line has so many words, the third of them this text.
-fn is_form(line: &[u8], k: usize, text: &[u8]) -> bool
-    ensures { result ≡ is_form k 2 text.now line.now }
-{
-    words(line) == k && word(line, 2) == text
-}
-
 // ---- requests
 
 #[tactic(auto, unfolding(crate::specs::Forms::tray_asked))]
@@ -56,20 +49,18 @@ fn tray(line: &[u8]) -> Option<Request>
 }
 
 // The request of a delivery, by the number of words and the name of its kind.
-#[tactic(auto, unfolding(crate::specs::Forms::request_asked, crate::specs::Forms::poisson_asked, crate::specs::Forms::geometric_asked))]
+#[tactic(auto, using(crate::proofs::Texts::same_read, crate::proofs::Texts::other_first), unfolding(crate::specs::Forms::request_asked, crate::specs::Forms::poisson_asked, crate::specs::Forms::geometric_asked))]
 fn request(line: &[u8]) -> Option<Request>
     ensures { result ≡ request_asked line.now }
 {
-    if is_form(line, 6, b"hypergeometric") {
-        tray(line)
-    } else if is_form(line, 4, b"poisson") {
-        float_bits(word(line, 3)).map(|threshold| Request::Poisson { threshold })
-    } else if is_form(line, 4, b"geometric") {
-        float_bits(word(line, 3)).map(|p| Request::Geometric { p })
-    } else if is_form(line, 3, b"standard") {
-        Some(Request::StandardGeometric)
-    } else {
-        None
+    match (words(line), word(line, 2)) {
+        (6, b"hypergeometric") => tray(line),
+        (4, b"poisson") => float_bits(word(line, 3)).map(|threshold| Request::Poisson {
+            threshold,
+        }),
+        (4, b"geometric") => float_bits(word(line, 3)).map(|p| Request::Geometric { p }),
+        (3, b"standard") => Some(Request::StandardGeometric),
+        _ => None,
     }
 }
 
@@ -108,14 +99,13 @@ fn strike_from(line: &[u8]) -> Option<Line>
     Some(Line::StrikeFrom { j, entries })
 }
 
-#[tactic(auto, unfolding(crate::specs::Forms::any_strike_line))]
+#[tactic(auto, using(crate::proofs::Texts::same_read, crate::proofs::Texts::other_first), unfolding(crate::specs::Forms::any_strike_line))]
 fn any_strike(line: &[u8]) -> Option<Line>
     ensures { result ≡ any_strike_line line.now }
 {
-    if is_form(line, 4, b"from") {
-        strike_from(line)
-    } else {
-        strike(line)
+    match (words(line), word(line, 2)) {
+        (4, b"from") => strike_from(line),
+        _ => strike(line),
     }
 }
 
@@ -127,19 +117,15 @@ fn redraw(line: &[u8]) -> Option<Line>
 }
 
 // A call, by its first word.
-#[tactic(auto, unfolding(crate::specs::Forms::call_line))]
+#[tactic(auto, using(crate::proofs::Texts::same_read, crate::proofs::Texts::other_first), unfolding(crate::specs::Forms::call_line))]
 fn call(line: &[u8]) -> Option<Line>
     ensures { result ≡ call_line line.now }
 {
-    let name = word(line, 0);
-    if name == b"deliver".as_slice() {
-        delivery(line)
-    } else if name == b"strike".as_slice() {
-        any_strike(line)
-    } else if name == b"redraw".as_slice() {
-        redraw(line)
-    } else {
-        None
+    match word(line, 0) {
+        b"deliver" => delivery(line),
+        b"strike" => any_strike(line),
+        b"redraw" => redraw(line),
+        _ => None,
     }
 }
 
