@@ -1,6 +1,5 @@
 -- `search::sample_remainder` meets its contract. Assumes nothing.
 use Rattle.std.proofs.Common.{ℕ, ◌≡◌, ◌+◌, ◌%◌, ◌^◌, List, Some, drop, Float, sym, ◌∙◌, arith}
-use native.Mathlib.Nat.{mul-le-mul}
 use lib.Ieee.{of_bits, round}
 use Rattle.words.specs.Inner.{word_at}
 use Rattle.words.specs.Rule.{more, read}
@@ -8,7 +7,7 @@ use Rattle.words.proofs.Tape.{word_there}
 use Rattle.words.proofs.Ended.{ended}
 use Rattle.words.proofs.Reading.{read_done, read_at, read_end}
 use Rattle.search.specs.Search.{search_rule, searching, remainder_word, acceptance}
-use Rattle.search.proofs.Spans.{shifted, shifted_most, masked, masked_most}
+use Rattle.search.proofs.Spans.{shifted, masked}
 use Rattle.search.proofs.sample_remainder.Goals as goal
 
 -- A try reads two words, and stands before its judgement.
@@ -66,14 +65,6 @@ loop-w-preserved c =
     let second = sym c.word_at-in-loop-w.ensures ∙ c.in_ok-v.ensures.ok_part in
     l.invariant ∙ try s.q (2 ^ s.k) s.pi a.tape.now l.i a.d w c.in_ok-v.v first second
     ∙ simp (← c.fraction.ensures, ← masked s.k s.most w, ← c.power.ensures, c.if-fraction-power.false)
-
-pub overflow_mul-count : goal.overflow_mul-count
-overflow_mul-count c = omega (arith, mul-le-mul c.requires (shifted_most c.args.squared.k c.args.squared.most))
-
-pub overflow_add-count : goal.overflow_add-count
-overflow_add-count c =
-    let s = c.args.squared in
-    omega (arith, mul-le-mul c.requires (shifted_most s.k s.most), masked_most s.k s.most c.in_ok-w.w)
 
 pub returns : goal.returns
 unfolding of_bits round

@@ -26,17 +26,17 @@ module _ (ws : List ℕ) (short : too_long ws ≡ false) where
 
 pub returns-then-too_long : goal.returns-then-too_long
 unfolding draw standard_geometric
-returns-then-too_long c = simp (sym c.too_long.ensures ∙ c.if-too_long.true)
+returns-then-too_long c = simp (sym c.if-too_long.ensures)
 
 pub returns-in_err-w : goal.returns-in_err-w
 returns-in_err-w c =
     let ws = c.args.tape.now in
-    let within = sym c.too_long.ensures ∙ c.if-too_long.false in
+    let within = sym c.if-too_long.ensures in
     ended _ _ _ c.in_err-w.ensures.value c.from_residual.ensures.1
     ∙ sym (is_read ws within ∙ read_end standard_rule ws 0 0 0 (sym c.word_at.ensures ∙ c.in_err-w.ensures.ok_part))
 
 pub sample_after_zero-requires : goal.sample_after_zero-requires
-sample_after_zero-requires c = within_limit _ (sym c.too_long.ensures ∙ c.if-too_long.false)
+sample_after_zero-requires c = within_limit _ (sym c.if-too_long.ensures)
 
 pub returns-then-w-eq0 : goal.returns-then-w-eq0
 returns-then-w-eq0 c =
@@ -44,10 +44,10 @@ returns-then-w-eq0 c =
     let z : w ≡ 0 = omega arith in
     let n : count_leading_zeros 64 w ≡ 64 = ap (count_leading_zeros 64) z ∙ leading_of_zero 64 in
     c.sample_after_zero.ensures
-    ∙ sym (begun c.args.tape.now (sym c.too_long.ensures ∙ c.if-too_long.false) w (sym c.word_at.ensures ∙ c.in_ok-w.ensures.ok_part) ∙ simp (eq-eqb w 0 z, n))
+    ∙ sym (begun c.args.tape.now (sym c.if-too_long.ensures) w (sym c.word_at.ensures ∙ c.in_ok-w.ensures.ok_part) ∙ simp (eq-eqb w 0 z, n))
 
 pub returns : goal.returns
 returns c =
     let w = c.in_ok-w.w in
-    sym (begun c.args.tape.now (sym c.too_long.ensures ∙ c.if-too_long.false) w (sym c.word_at.ensures ∙ c.in_ok-w.ensures.ok_part)
+    sym (begun c.args.tape.now (sym c.if-too_long.ensures) w (sym c.word_at.ensures ∙ c.in_ok-w.ensures.ok_part)
     ∙ simp (ne_eqb w 0 (λ e. omega arith), zero-add, read_done standard_rule, ← c.from-count.ensures))
