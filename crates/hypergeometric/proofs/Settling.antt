@@ -1,7 +1,7 @@
 -- Laws of the set-up: what an accepted tray's numbers keep to, what a record that the set-up gave is, and that its answer's reading loses
 -- nothing. Assumes nothing.
 use mathlib.Core.Path.{◌≡◌, sym, ap, ◌∙◌, subst}
-use Prim.Native.Nat.{ℕ, ◌+◌, ◌*◌, ◌^◌, ◌≤◌, ◌<◌, min}
+use Prim.Native.Nat.{ℕ, ◌+◌, ◌≤◌, min}
 use native.Mathlib.Nat.{mul-le-mul}
 use native.Mathlib.Omega.{arith}
 use borrow.Author.Tests.{ltb-false}
@@ -14,17 +14,11 @@ use Rattle.words.proofs.Exactly.{drawn_exactly}
 use Rattle.words.proofs.OneAnswer.{one_refusal}
 use Rattle.hypergeometric.specs.declared.Hypergeometric.{Hypergeometric}
 use Rattle.hypergeometric.specs.Reduction.{population_cap, reduction}
-use Rattle.hypergeometric.specs.Inner.{Lands}
+use Rattle.hypergeometric.specs.Inner.{Lands, Sizes}
 use Rattle.hypergeometric.specs.SetUp.{SetUp, set_up, tray_refusals, settled, set_up_paper, FromSetUp}
 use Rattle.hypergeometric.proofs.Reducing.{n1+n2, k≤n2, lands}
 
--- the sizes of the reduction's numbers, for what is added and multiplied with them
-pub record Sizes (N n1 n2 k : ℕ) : Type 0 where
-  pub n1≤ : n1 ≤ N
-  pub n2≤ : n2 ≤ N
-  pub k≤ : k ≤ N
-  pub product : (k + 1) * (n1 + 1) < 2 ^ 64
-
+-- the sizes of the reduction's numbers
 pub sizes : (N K n : ℕ) → K ≤ N → n ≤ N → N ≤ population_cap → Sizes N (reduction N K n).n1 (reduction N K n).n2 (reduction N K n).k
 sizes N K n hK hn h =
     let s = n1+n2 N K n hK hn in

@@ -4,8 +4,8 @@
 
 ghost use Rattle.std.specs.Prelude.{◌≡◌, ◌≤◌, ◌<◌};
 ghost use Rattle.words.specs.Draw.{DrawAllows};
-ghost use Rattle.hypergeometric.specs.Reduction.{landing, flip, by_marked, reduction};
-ghost use Rattle.hypergeometric.specs.Inner.{Lands, Small};
+ghost use Rattle.hypergeometric.specs.Reduction.{population_cap, landing, flip, by_marked, reduction};
+ghost use Rattle.hypergeometric.specs.Inner.{Lands, Small, Sizes};
 ghost use Rattle.hypergeometric.specs.SetUp.{SetUpAllows};
 ghost use Rattle.hypergeometric.specs.Inversion.{next_p, inverted};
 ghost use Rattle.hypergeometric.specs.Hypergeometric.{from_kept, hypergeometric};
@@ -128,8 +128,10 @@ struct Reduced {
 // Marked and unmarked are exchanged so that n1 is the lesser; then a sample of more than half is exchanged with what it leaves, which
 // has the rest of n1.
 fn reduce(total_population_size: u64, population_with_feature: u64, sample_size: u64) -> Reduced
-    requires { (population_with_feature ≤ total_population_size) × (sample_size ≤ total_population_size) }
-    ensures { result ≡ reduction total_population_size population_with_feature sample_size }
+    requires within { (population_with_feature ≤ total_population_size) × (sample_size ≤ total_population_size) }
+    requires cap { total_population_size ≤ population_cap }
+    ensures is { result ≡ reduction total_population_size population_with_feature sample_size }
+    ensures sizes { Sizes total_population_size result.n1 result.n2 result.k }
 {
     let r = by_marked(total_population_size, population_with_feature, sample_size);
     if sample_size <= total_population_size / 2 {

@@ -2,7 +2,7 @@
 use borrow.Author.Tests.{lt-ltb, le-ltb}
 use lib.Ieee.{Float, nan, inf, fin, of_bits, round}
 use lib.Ieee.Scale.{finite}
-use Rattle.std.proofs.Common.{ℕ, ◌+◌, ◌*◌, ◌<◌, ◌≤◌, ◌≡◌, [], ◌∷◌, refl, sym, ap, ◌∙◌, subst, true, false, not, arith}
+use Rattle.std.proofs.Common.{ℕ, ◌+◌, ◌*◌, ◌<◌, ◌≤◌, ◌≡◌, [], ◌∷◌, refl, sym, ap, ◌∙◌, true, false, not, arith}
 use Rattle.std.proofs.lemmas.Bool.Decides.{nat_tests}
 use Rattle.std.specs.Float.{float_is_finite}
 use Rattle.words.specs.Outcome.{drawn, refused}
@@ -11,7 +11,6 @@ use Rattle.first_probability.specs.First.{first_probability}
 use Rattle.hypergeometric.specs.declared.Reduced.{Reduced}
 use Rattle.hypergeometric.specs.Reduction.{population_cap, reduction}
 use Rattle.hypergeometric.specs.SetUp.{with_first, set_up, is_taken, zero_or_not_finite, tray_refusals, settled}
-use Rattle.hypergeometric.proofs.Settling.{Sizes, sizes}
 use Rattle.hypergeometric.proofs.set_up.Goals as goal
 use Rattle.hypergeometric.proofs.set_up.Goals.{then-first-via-then-first, then-first-via-else-first+then-not-is_finite}
 
@@ -27,30 +26,6 @@ returns-then-sample_size-total_population_size c = grind (arith, nat_tests)
 pub returns-then-total_population_size-gt-CAP : goal.returns-then-total_population_size-gt-CAP
 unfolding settled tray_refusals
 returns-then-total_population_size-gt-CAP c = grind (arith, nat_tests)
-
--- the sizes of what the reduction gave
-given_sizes : (N K n : ℕ) (r : Reduced) → K ≤ N → n ≤ N → N ≤ population_cap → r ≡ reduction N K n → Sizes N r.n1 r.n2 r.k
-given_sizes N K n r a b c e = subst (λ (r : Reduced). Sizes N r.n1 r.n2 r.k) (sym e) (sizes N K n a b c)
-
-pub overflow_add-r : goal.overflow_add-r
-overflow_add-r c =
-    let z = given_sizes _ _ _ _ (omega arith) (omega arith) (omega arith) c.reduce-r.ensures in
-    omega (arith, z.k≤)
-
-pub overflow_add-r-2 : goal.overflow_add-r-2
-overflow_add-r-2 c =
-    let z = given_sizes _ _ _ _ (omega arith) (omega arith) (omega arith) c.reduce-r.ensures in
-    omega (arith, z.n1≤)
-
-pub overflow_mul-r : goal.overflow_mul-r
-overflow_mul-r c =
-    let z = given_sizes _ _ _ _ (omega arith) (omega arith) (omega arith) c.reduce-r.ensures in
-    record { fits = z.product }
-
-pub first_probability-first-requires : goal.first_probability-first-requires
-first_probability-first-requires c =
-    let z = given_sizes _ _ _ _ (omega arith) (omega arith) (omega arith) c.reduce-r.ensures in
-    (omega arith, z.n1≤, z.n2≤, z.k≤)
 
 -- std's test is that of the rules
 finite_same : (x : Float) → float_is_finite x ≡ finite x
@@ -86,7 +61,7 @@ module _ (N K n : ℕ) (r : Reduced) (p : Float) (a : K ≤ N) (b : n ≤ N) (c 
 pub returns-then-r-total_population_size : goal.returns-then-r-total_population_size
 returns-then-r-total_population_size c =
     let a = c.args in
-    too_high a.total_population_size a.population_with_feature a.sample_size _ _ (omega arith) (omega arith) (omega arith) c.reduce-r.ensures refl
+    too_high a.total_population_size a.population_with_feature a.sample_size _ _ (omega arith) (omega arith) (omega arith) c.reduce-r.ensures.is refl
     c.if-r-total_population_size.true
 
 pub returns-then-first : goal.returns-then-first
@@ -100,7 +75,7 @@ returns-then-first c =
       | then-first-via-else-first+then-not-is_finite w ↦
           simp (w.if-first.false, ap not (sym (finite_same p) ∙ sym w.is_finite.ensures.value ∙ w.if-not-is_finite.true))
     ] in
-    too_large a.total_population_size a.population_with_feature a.sample_size _ p (omega arith) (omega arith) (omega arith) c.reduce-r.ensures
+    too_large a.total_population_size a.population_with_feature a.sample_size _ p (omega arith) (omega arith) (omega arith) c.reduce-r.ensures.is
     c.first_probability-first.ensures c.if-r-total_population_size.false here
 
 -- the record is one that the set-up gives, and what it comes to
@@ -111,7 +86,7 @@ unfolding zero_or_not_finite of_bits round
 given_ready c =
     let p = c.first_probability-first.result in
     let z : zero_or_not_finite p ≡ false = simp (c.if-first.false, ap not (sym (finite_same p) ∙ sym c.is_finite.ensures.value ∙ c.if-not-is_finite.false)) in
-    ready _ _ _ _ p (omega arith) (omega arith) (omega arith) c.reduce-r.ensures c.first_probability-first.ensures c.if-r-total_population_size.false z
+    ready _ _ _ _ p (omega arith) (omega arith) (omega arith) c.reduce-r.ensures.is c.first_probability-first.ensures c.if-r-total_population_size.false z
 
 pub invariant_of-result : goal.invariant_of-result
 invariant_of-result c =
