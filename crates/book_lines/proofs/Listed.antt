@@ -19,7 +19,9 @@ use Rattle.words.proofs.Exactly.{none_given}
 use Rattle.bytes_le.proofs.Numbers.{Bytes}
 use Rattle.kinds.specs.Kinds.{kind_number}
 use Rattle.kinds.proofs.Requests.{kind_fits}
-use Rattle.layout.specs.declared.Walked.TheVariants.{Damaged, Sound}
+use Rattle.std.specs.Prelude.{None, Some}
+use Rattle.std.proofs.Common.{w8}
+use Rattle.std.proofs.Common.{Fits as FitsWord}
 use Rattle.entry.specs.declared.Entry.{Entry}
 use Rattle.layout.specs.declared.Standing.{Standing}
 use Rattle.entry.specs.Entry.{length_at, entry_at, blank}
@@ -37,6 +39,7 @@ use Rattle.writing.specs.Digits.{decimal}
 use Rattle.writing.specs.Writing.{Writes}
 use Rattle.writing.proofs.Writing.{written_next, length_decimal}
 use Rattle.lines.specs.Lines.{line, refused_line}
+use Rattle.lines.proofs.Lines.{word_next, last_words}
 use Rattle.book_lines.specs.Listing.{header, entry_line, entry_lines, end_line, listed, listing_refusals, entries_in, listing_of, listing}
 
 -- ---- an entry's line
@@ -60,6 +63,21 @@ line_room e f =
       length_decimal e.count 20 (omega arith) (omega (arith, f.count_fits)),
     )
 
+-- it is its numbers, each with the byte after it
+pub entry_written : {l m1 m2 m3 m4 o : List ℕ} {x y1 y2 y3 y4 z k : ℕ} (e : Entry) → k ≡ kind_number e.request → Writes l x (decimal e.serial ++ (32 ∷ [])) m1 y1
+    → Writes m1 y1 (decimal k ++ (32 ∷ [])) m2 y2 → Writes m2 y2 (decimal e.place ++ (32 ∷ [])) m3 y3 → Writes m3 y3 (decimal e.used ++ (32 ∷ [])) m4 y4
+    → Writes m4 y4 (decimal e.count ++ (10 ∷ [])) o z → Writes l x (entry_line e) o z
+unfolding entry_line
+entry_written e ek w1 w2 w3 w4 w5 =
+    word_next _ _ _ w1 (word_next _ _ _ (rw ek at w2) (word_next _ _ _ w3 (last_words _ _ (written_next _ _ _ _ _ _ _ _ w4 w5))))
+
+-- a number and the byte after it
+pub number_length : (n e : ℕ) → length (decimal n ++ (e ∷ [])) ≡ length (decimal n) + 1
+number_length n e = length-append (decimal n) (e ∷ [])
+
+-- how long a line is, for `grind`
+pub ruleset entry_words = (line_length, number_length)
+
 -- lines of at most 60 bytes each take at most 60 times their number
 lines_room : (es : List Entry) (d : Entry) → ((i : ℕ) → i < length es → length (entry_line (get_or es i d)) ≤ 60) → length (entry_lines es) ≤ 60 * length es
 unfolding entry_lines
@@ -68,7 +86,10 @@ lines_room (e ∷ es) d h = simp length-append (omega (arith, h 0 (omega arith),
 
 -- ---- the entries of a sound book, where they lie
 
-module _ (b : List ℕ) (by : Bytes b) (h : NoneHolds (listing_refusals b)) where
+module _ (b : List ℕ) (fits : (i : ℕ) → FitsWord w8 (get_or b i 0)) (h : NoneHolds (listing_refusals b)) where
+  by : Bytes b
+  by i = (fits i).fits
+
   decodes : decode most_words b ≡ some (entries_in b)
   decodes = open_decodes most_words b h
 
@@ -113,6 +134,9 @@ pub lines_done : (es : List Entry) (i : ℕ) (l : List ℕ) (x : ℕ) → length
 unfolding entry_lines
 lines_done es i l x h r = rw (drop_of_length-le es h) (record { bytes = refl; place = sym (add-zero x); room = r })
 
+-- a turn over the entries, for `grind`
+pub ruleset entry_turns = (entry_whole, entry_room)
+
 -- ---- what the listing comes to
 
 -- the header, the entries' lines and the end one after another
@@ -134,16 +158,19 @@ module _ (b : List ℕ) where
 
   module _ (g : book_too_long b ≡ false) where
     -- 12: the walk found damage
-    pub listing_damaged : Damaged ≡ walked most_words b → refused_line 12 ≡ listing b
+    pub listing_damaged : None ≡ walked most_words b → refused_line 12 ≡ listing b
     unfolding listing listing_of is_damaged_for
     listing_damaged e = rw (g, walked_damaged most_words b e)
 
     -- the walk found a sound book, and the number of its entries
-    pub listing_sound : (st : Standing) → Sound st ≡ walked most_words b → NoneHolds (listing_refusals b) × (st.entries ≡ length (entries_in b))
+    pub listing_sound : (st : Standing) → Some st ≡ walked most_words b → NoneHolds (listing_refusals b) × (st.entries ≡ length (entries_in b))
     unfolding is_damaged_for booked_for
     listing_sound st e =
         let t = walked_sound most_words b st e in
         ((refl, (g, (ap is_none t.decoded, tt))), rw t.decoded (ap (λ (x : Standing). x.entries) t.stands))
+
+-- how the listing comes out, for `grind`
+pub ruleset listings = (listing_long, listing_damaged, listing_sound, listing_listed, entries_few)
 
 -- ---- an empty book
 
