@@ -16,7 +16,7 @@ use Rattle.std.specs.Prelude.{None, Some}
 use Rattle.kinds.specs.declared.Row.{Row}
 use Rattle.kinds.specs.declared.Request.TheVariants.{Hypergeometric, Poisson, Geometric, StandardGeometric}
 use Rattle.kinds.specs.Kinds.{fixed_length, Kind, table, numbered, kind_of, length_in, parameters_in, request_of, parts_of, kind_number, three, parameters_of, length_of, same_parts, same_request}
-use Rattle.kinds.specs.Inner.{row, row_of}
+use Rattle.kinds.specs.Inner.{row, row_of, Alike}
 use Rattle.kinds.proofs.Table.{row_none, Each, found, Listed, listed, by_kind, shape_length, known}
 
 -- a request is the one of its kind and parameters: a line a kind
@@ -162,17 +162,18 @@ row_asks_none k ps e = (asks_nothing k ps).1 (row_none (kind_of k) (get_or ps 0 
 
 -- ---- the same request
 
+-- parts that are alike field by field are equal
+pub alike_equal : (p q : Parts) → Alike p q → p ≡ q
+alike_equal p q a = λ i. record { kind = a.kind i; first = a.first i; second = a.second i; third = a.third i }
+
 same_self_parts : (p : Parts) → same_parts p p ≡ true
 same_self_parts p = grind (arith, nat_tests)
 
 -- parts that are the same are equal
 same_parts_equal : (p q : Parts) → same_parts p q ≡ true → p ≡ q
 same_parts_equal p q e =
-    let k : p.kind ≡ q.kind = grind (arith, nat_tests) in
-    let a : p.first ≡ q.first = grind (arith, nat_tests) in
-    let b : p.second ≡ q.second = grind (arith, nat_tests) in
-    let c : p.third ≡ q.third = grind (arith, nat_tests) in
-    λ i. record { kind = k i; first = a i; second = b i; third = c i }
+    alike_equal p q
+    (record { kind = grind (arith, nat_tests); first = grind (arith, nat_tests); second = grind (arith, nat_tests); third = grind (arith, nat_tests) })
 
 -- a request is the same as itself
 pub same_self : (r : Request) → same_request r r ≡ true
