@@ -1,4 +1,5 @@
-// One entry of a book, read and written. Only here and in layout is it known where a field stands.
+// One entry of a book, read and written. Only here and in layout is it known where a field stands. (Bytes and place are two parameters, and no struct
+// of both: the definitions that the documents name, as `entry_at`, speak of each of them.)
 #![tactic(auto)]
 
 ghost use Rattle.std.specs.Prelude.{◌≡◌, cond, ◌+◌, ◌*◌, ◌≤◌, ltb, length, get_or, drop};

@@ -22,7 +22,8 @@ pub struct Standing {
 // The most bytes that a book may have.
 const MOST_BYTES: usize = 65_536;
 
-// What stands at the front of the bytes that are left: nothing more, what no book has there, or the next entry.
+// What stands at the front of the bytes that are left: nothing more, what no book has there, or the next entry. (Three cases without a value: no
+// Option or Result has them.)
 #[derive(Clone, Copy, PartialEq, Eq)]
 enum Head {
     End,
