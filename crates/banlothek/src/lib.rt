@@ -14,7 +14,8 @@ use kinds::{Request, row_of};
 use redraws::Redrawn;
 use words::{Answer, Draw, Refusal};
 
-// What every function answers. The header's `banlothek_answer` has these fields in this order.
+// What every function answers. The header's `banlothek_answer` has these fields in this order: C is told by numbers which refusal it is and whether
+// it is a copy.
 #[repr(C)]
 #[derive(Clone, Copy)]
 pub struct BanlothekAnswer {
@@ -75,7 +76,7 @@ fn refuse_by(refusal: u32, serial: u32) -> BanlothekAnswer
     }
 }
 
-// ---- draws, each by its own kind's function: a caller that asks for one kind need not pay for a choice among four
+// ---- draws, each by its own kind's function, which C calls by its name: a caller that asks for one kind need not pay for a choice among four
 
 // A draw's answer.
 fn told(answer: Answer) -> BanlothekAnswer
