@@ -43,7 +43,8 @@ pub struct Parts {
 // ---- from a number
 
 // The table: what a number stands for, with these parameters. Those that a kind does not have are not looked at. Every number that is not
-// in the table is refused here, and nowhere else. (One match on the two-byte kind is the form that the rules name.)
+// in the table is refused here, and nowhere else. (One match on the two-byte kind is the form that the rules name. Four numbers and no `Parts`:
+// C's `banlothek_deliver`, an entry's bytes and a case of `vectors` each hand them on one by one.)
 #[tactic(auto, using(crate::proofs::Table::row_unlisted), unfolding(crate::specs::Kinds::kind_of, crate::specs::Kinds::numbered))]
 pub fn row_of(kind: u16, first: u64, second: u64, third: u64) -> Option<Row>
     ensures { result ≡ row_of kind first second third }
@@ -70,8 +71,8 @@ pub fn row_of(kind: u16, first: u64, second: u64, third: u64) -> Option<Row>
     })
 }
 
-// The length of a kind's entry; 0 where the number is no kind's. (0 and no Option, as `length_in` has it. With the next it differs in a field: a
-// helper that takes the field as a closure would be as long.)
+// The length of a kind's entry; 0 where the number is no kind's. (0 and no Option: the clause says `length_in (kind_of kind)`, which is 0 for no
+// kind. With the next it differs in a field: a helper that takes the field as a closure would be as long.)
 pub fn length_by(kind: u16) -> u64
     ensures { result ≡ length_in (kind_of kind) }
 {
