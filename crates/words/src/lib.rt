@@ -68,13 +68,11 @@ impl From<Refusal> for u32 {
 }
 
 // Whether a refusal, by its number, is one by which a reading may run out of words.
+// It takes any number and no `Refusal`: docs/PUBLIC.md promises its answer for each u32, those that are no refusal's included.
 pub fn is_short(number: u32) -> bool
     ensures { result ≡ is_short number }
 {
-    match number {
-        10 => true,
-        _ => false,
-    }
+    matches!(number, 10)
 }
 
 // The most words that a tape may have.
