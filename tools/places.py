@@ -95,6 +95,7 @@ POINTS = [
     ("1 numbers for kinds, refusals, entries, acts", lambda: lines(r"\b(kind|number|entry|act|refusal|stopped|copied): (u16|u32|u64|usize)\b")),
     ("2 bodies alike but for names, numbers and types", twins),
     ("3 while and loop", lambda: lines(r"^\s*(while|loop|let \w+ = loop)\b")),
+    ("3 for over numbers, and not over what they number", lambda: lines(r"^\s*for \w+ in .*\.\.")),
     ("3 an index or a count moved by hand", lambda: lines(r"(\+=|-=) 1;")),
     ("4 casts", lambda: lines(r"\bas (u8|u16|u32|u64|usize|i64|f64)\b")),
     ("4 comparing, least, most, number and text by hand", lambda: lines(r"fn (same\w*|is_same\w*|smaller|larger|widen|flipped|number|is_finite|is_word|\w*_of)\(")),
