@@ -3,7 +3,7 @@
 
 ghost use Rattle.std.specs.Prelude.{◌≡◌, [], ◌∷◌, cond, not, ◌&&◌, ◌+◌, ◌^◌, ◌<◌};
 ghost use Rattle.words.specs.Refusals.{◌on◌, given};
-ghost use Rattle.words.specs.Inner.{is_short, drew};
+ghost use Rattle.words.specs.Inner.{is_short};
 ghost use Rattle.words.specs.Paper.{number_of};
 ghost use Rattle.kinds.specs.Kinds.{same_request};
 ghost use Rattle.opening.specs.Calls.{call};
@@ -26,7 +26,7 @@ pub enum Delivered {
     Copy(Draw),
 }
 
-// ---- a draw in an entry
+// ---- deliveries
 
 // The entry that books a draw after those that stand.
 fn entry_of(standing: Standing, request: Request, draw: Draw) -> Entry
@@ -42,25 +42,13 @@ fn entry_of(standing: Standing, request: Request, draw: Draw) -> Entry
     }
 }
 
-// The draw that an entry books.
-fn draw_of(entry: Entry) -> Draw
-    ensures { result ≡ drew entry.count entry.used }
-{
-    Draw {
-        count: entry.count,
-        used: entry.used,
-    }
-}
-
-// ---- deliveries
-
 // What an entry answers a delivery of its serial.
 #[tactic(auto, using(crate::proofs::Delivering::copy_equal, crate::proofs::Delivering::copy_other))]
 fn copy_of(entry: Entry, request: Request) -> Result<Delivered, Refusal>
     ensures { delivered result ≡ given (14 on not (same_request entry.request request) ∷ []) (copied entry) }
 {
     if entry.request == request {
-        Ok(Delivered::Copy(draw_of(entry)))
+        Ok(Delivered::Copy(Draw::from(entry)))
     } else {
         Err(Refusal::SerialReused)
     }

@@ -5,6 +5,7 @@
 ghost use Rattle.std.specs.Prelude.{◌≡◌, cond, ◌+◌, ◌*◌, ◌≤◌, ltb, length, get_or, drop};
 ghost use Rattle.std.proofs.Math.Option.{some};
 ghost use Rattle.std.proofs.lemmas.List.Edits.{sets};
+ghost use Rattle.words.specs.Inner.{drew};
 ghost use Rattle.bytes_le.specs.LittleEndian.{bytes_of, words_from};
 ghost use Rattle.kinds.specs.Kinds.{fixed_length, kind_of, parameters_in, kind_number, parameters_of, length_of};
 ghost use Rattle.entry.specs.Entry.{parameter_bytes, fixed_bytes, entry_bytes, count_at, entry_at};
@@ -12,6 +13,7 @@ ghost use Rattle.entry.specs.Inner.{row_at, HasEntry};
 
 use bytes_le::{read_le, write_le};
 use kinds::{Parts, Request, Row, kind_of, length_of, parameters_by, row_of};
+use words::Draw;
 
 // Where an entry's fixed fields stand, counted from its first byte. The length stands first.
 pub const KIND: usize = 2;
@@ -35,6 +37,18 @@ pub struct Entry {
     pub place: usize,
     pub used: usize,
     pub count: u64,
+}
+
+// The draw that an entry books.
+impl From<Entry> for Draw {
+    ghost from_gives = { λ entry draw. draw ≡ drew entry.count entry.used };
+
+    fn from(entry: Entry) -> Draw {
+        Draw {
+            count: entry.count,
+            used: entry.used,
+        }
+    }
 }
 
 // ---- read

@@ -129,10 +129,10 @@ module _ (ws : List ℕ) (e : Entry) where
   lent x h = ap (is_drawn e.count e.used) (sym (h ∙ ap (draw_of e.request) (lent_from ws e.place)))
 
   -- by the derived `==` of an answer
-  pub agree_equal : (D : Draw → Draw → Bool) (E : Refusal → Refusal → Bool) → ((a b : Draw) → D a b ≡ (eqb a.count b.count && eqb a.used b.used)) → (a : Answer)
-      → paper a ≡ draw_of e.request (take (length ws - e.place) (drop e.place ws)) → result_eq D E a (Ok (drew e.count e.used)) ≡ agrees ws e
-  agree_equal D E same (Ok d) h = same d (drew e.count e.used) ∙ sym (lent (told d) h)
-  agree_equal D E same (Err x) h = sym (lent (refused (number_of x)) h)
+  pub agree_equal : (D : Draw → Draw → Bool) (E : Refusal → Refusal → Bool) → ((a b : Draw) → D a b ≡ (eqb a.count b.count && eqb a.used b.used)) → (b : Draw) → b ≡ drew e.count e.used
+      → (a : Answer) → paper a ≡ draw_of e.request (take (length ws - e.place) (drop e.place ws)) → result_eq D E a (Ok b) ≡ agrees ws e
+  agree_equal D E same b is (Ok d) h = same d b ∙ ap (λ (x : Draw). eqb d.count x.count && eqb d.used x.used) is ∙ sym (lent (told d) h)
+  agree_equal D E same b is (Err x) h = sym (lent (refused (number_of x)) h)
 
 -- ---- a turn over the bytes: what was read at `at`, and whether it agrees
 

@@ -21,11 +21,7 @@ fn agrees_on(tape: &[u64], entry: Entry) -> bool
     requires { entry.place ≤ length tape.now }
     ensures { result ≡ agrees tape.now entry }
 {
-    let booked = Draw {
-        count: entry.count,
-        used: entry.used,
-    };
-    draws::draw(&tape[entry.place..], entry.request) == Ok(booked)
+    draws::draw(&tape[entry.place..], entry.request) == Ok(Draw::from(entry))
 }
 
 // Draws every entry again from its place. The book is only read.
