@@ -22,8 +22,8 @@ pub struct Standing {
 // The most bytes that a book may have.
 const MOST_BYTES: usize = 65_536;
 
-// What stands at the front of the bytes that are left: nothing more, what no book has there, or the next entry. (Three cases without a value: no
-// Option or Result has them.)
+// What stands at the front of the bytes that are left: nothing more, what no book has there, or the next entry. (The definition `head` of specs/ has
+// these three cases.)
 #[derive(Clone, Copy, PartialEq, Eq)]
 enum Head {
     End,
@@ -49,12 +49,13 @@ pub fn next_at(book: &[u8], at: usize) -> usize
 
 // ---- the walk
 
-// What stands at `at`, where this serial and this place are due.
+// What stands where these entries end: the next serial and their place are due there.
 #[tactic(auto, using(entry::proofs::Entries::kind_small, crate::proofs::Walking::heads))]
-fn head_at(book: &[u8], at: usize, serial: u64, place: u64) -> Head
-    requires { at ≤ length book.now }
-    ensures { result ≡ head serial place (drop at book.now) }
+fn head_at(book: &[u8], standing: Standing) -> Head
+    requires { (standing.entries ≤ standing.end) × (standing.end ≤ length book.now) }
+    ensures { result ≡ head (standing.entries + 1) standing.place (drop standing.end book.now) }
 {
+    let at = standing.end;
     let left = book.len() - at;
     if left < 2 {
         return Head::End;
@@ -68,20 +69,20 @@ fn head_at(book: &[u8], at: usize, serial: u64, place: u64) -> Head
         return Head::Damage;
     }
     if length != length_by(read_le(book, at + KIND, 2) as u16)
-        || read_le(book, at + SERIAL, 4) != serial
-        || read_le(book, at + PLACE, 4) != place
+        || read_le(book, at + SERIAL, 4) != standing.entries + 1
+        || read_le(book, at + PLACE, 4) != standing.place as u64
     {
         return Head::Damage;
     }
     Head::Next
 }
 
-// Whether a book may end at `end`, with its tape at `place`: the words used have to be on the tape, and every byte from there on 0.
-fn is_closed(book: &[u8], end: usize, place: usize, words: usize) -> bool
-    requires { end ≤ length book.now }
-    ensures { result ≡ is_closed words place (drop end book.now) }
+// Whether a book may end so: the words used have to be on the tape, and every byte from there on 0.
+fn is_closed(book: &[u8], standing: Standing, words: usize) -> bool
+    requires { standing.end ≤ length book.now }
+    ensures { result ≡ is_closed words standing.place (drop standing.end book.now) }
 {
-    place <= words && all_zero(book, end)
+    standing.place <= words && all_zero(book, standing.end)
 }
 
 // Walks the whole book, for a tape of this many words: how it stands, or nothing where it is not sound. (The book says where it ends: a `for` over
@@ -90,24 +91,20 @@ fn is_closed(book: &[u8], end: usize, place: usize, words: usize) -> bool
 pub fn walk(book: &[u8], words: usize) -> Option<Standing>
     ensures { result ≡ walked words book.now }
 {
-    let mut at: usize = 0;
-    let mut entries: u64 = 0;
-    let mut place: usize = 0;
+    let mut standing = Standing {
+        entries: 0,
+        end: 0,
+        place: 0,
+    };
     loop {
-        match head_at(book, at, entries + 1, place as u64) {
-            Head::End => {
-                let standing = Standing {
-                    entries,
-                    end: at,
-                    place,
-                };
-                return is_closed(book, at, place, words).then_some(standing);
-            }
+        match head_at(book, standing) {
+            Head::End => return is_closed(book, standing, words).then_some(standing),
             Head::Damage => return None,
             Head::Next => {
-                place += read_le(book, at + USED, 4) as usize;
-                at = next_at(book, at);
-                entries += 1;
+                let at = standing.end;
+                standing.place += read_le(book, at + USED, 4) as usize;
+                standing.end = next_at(book, at);
+                standing.entries += 1;
             }
         }
     }
