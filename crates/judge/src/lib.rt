@@ -9,10 +9,12 @@ ghost use Rattle.judge.specs.Judging as rules;
 use kinds::Request;
 use words::{Answer, Draw, Refusal};
 
-// What the Rust did: it drew, or, where a draw here is refused by this number, it stopped or chose a branch that is not taken.
+// What the Rust did: it drew; or it drew nothing that is compared, and `Err` has the number of the refusal that a draw here owes in that place: the
+// Rust stopped, or it chose a branch that is not taken here. (A number and no `Refusal`: 0 stands for an act that no case has, and no refusal is 0.)
 pub type Said = Result<Draw, u32>;
 
-// What comes of comparing: the same answer, a difference that an entry of docs/DIFFERENCES.md lists, or one that none does.
+// What comes of comparing: the same answer, a difference that an entry of docs/DIFFERENCES.md lists, or one that none does. (Entries are numbers:
+// that page's own, by which cases name them.)
 #[derive(Clone, Copy, PartialEq, Eq)]
 pub enum Verdict {
     Agrees,
@@ -25,17 +27,19 @@ pub enum Verdict {
 pub fn rust_did(act: u64, count: u64, used: usize) -> Said
     ensures { rules.said result ≡ rust_did act count used }
 {
-    match act {
-        0 => Ok(Draw { count, used }),
-        1 => Err(10),
-        2 => Err(3),
-        3 => Err(4),
-        4 => Err(2),
-        5 => Err(8),
-        6 => Err(6),
-        7 => Err(9),
-        _ => Err(0),
-    }
+    let refusal = match act {
+        0 => return Ok(Draw { count, used }),
+        1 => Refusal::Exhausted,
+        2 => Refusal::ProbabilityTooLarge,
+        3 => Refusal::SampleSizeTooLarge,
+        4 => Refusal::PopulationTooLarge,
+        5 => Refusal::InvalidProbability,
+        6 => Refusal::ModeTooHigh,
+        7 => Refusal::TooRare,
+        // no refusal has the number 0
+        _ => return Err(0),
+    };
+    Err(u32::from(refusal))
 }
 
 // Compares a draw here with the Rust's.
@@ -50,7 +54,7 @@ pub fn judge(request: Request, here: Answer, rust: Said) -> Verdict
     }
 }
 
-// Holds a verdict against the entry that the case names.
+// Holds a verdict against the entry that the case names. (0 and no Option: it is a case file's word for no entry.)
 pub fn as_marked(entry: u64, verdict: Verdict) -> Verdict
     ensures { result ≡ as_marked entry verdict }
 {
