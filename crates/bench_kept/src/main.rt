@@ -10,11 +10,10 @@ const MOST_WORDS: usize = 512;
 
 fn draw_round(tape: &[u64], kept: Hypergeometric, draws: u64) -> u64 {
     let mut sum: u64 = 0;
-    let mut at: usize = 0;
-    for _ in 0..draws {
-        let answer = hypergeometric::sample_from(&tape[at..], kept);
+    for word in tape.iter().cycle().take(draws as usize) {
+        // over one word no draw is refused; a refusal would add 0
+        let answer = hypergeometric::sample_from(&[*word], kept);
         sum = sum.wrapping_add(answer.map_or(0, |draw| draw.count));
-        at = if at + 1 < tape.len() { at + 1 } else { 0 };
     }
     sum
 }

@@ -1,6 +1,6 @@
 // Comparing a draw here with the Rust's.
 use judge::{Said, Verdict, judge};
-use kinds::{Parts, Request};
+use kinds::Request;
 use words::Answer;
 
 // The entry of docs/DIFFERENCES.md for a count of the Rust that is outside the support.
@@ -20,11 +20,18 @@ pub(crate) fn compare(request: Request, here: Answer, rust: Said) -> Verdict {
 }
 
 fn is_at_end(request: Request, here: Answer, rust: Said) -> bool {
+    let Request::Hypergeometric {
+        total,
+        marked,
+        sample,
+    } = request
+    else {
+        return false;
+    };
     let (Ok(drawn), Ok(drew)) = (here, rust) else {
         return false;
     };
-    let tray = Parts::from(request);
-    drawn.count == end_passed(tray.first, tray.second, tray.third, drew.count)
+    drawn.count == end_passed(total, marked, sample, drew.count)
 }
 
 // The end of a tray's support that the Rust passed with this count: as many as the smaller of marked and sampled, or as many as the sample

@@ -1,11 +1,11 @@
 // Draws from a kept tray: one that is set up once, and drawn from many times.
 use crate::cases::{Case, Unread};
 use crate::compare::compare;
-use crate::tally::{KEPT, Tally};
+use crate::tally::{Group, Tally};
 use hypergeometric::Hypergeometric;
 use judge::{Verdict, is_same};
 use kinds::Request;
-use words::Draw;
+use words::{Draw, Refusal};
 
 // Sets the tray up, and draws from it again.
 pub(crate) fn draw_kept<P: Print>(case: Case<'_>, tally: &mut Tally<P>) -> Result<(), Unread> {
@@ -17,7 +17,7 @@ pub(crate) fn draw_kept<P: Print>(case: Case<'_>, tally: &mut Tally<P>) -> Resul
     match hypergeometric::set_up(case.first, case.second, case.third) {
         Ok(kept) => draw_ready(case, request, kept, tally),
         Err(refusal) => {
-            tally.hold(case, request, KEPT, Err(refusal));
+            tally.hold(case, request, Group::Kept, Err(refusal));
             Ok(())
         }
     }
@@ -29,17 +29,17 @@ fn draw_ready<P: Print>(
     kept: Hypergeometric,
     tally: &mut Tally<P>,
 ) -> Result<(), Unread> {
-    // over no word it has to be refused: the tape has ended (tests/vectors lends one in a copy of this line)
+    // over no word it has to be refused: the tape has ended. (tests/vectors changes this slice in a copy of the program, so that it has a word.)
     let tape = [0u64];
     let here = hypergeometric::sample_from(&tape[..0], kept);
-    let due = Err(10);
+    let due = Err(u32::from(Refusal::Exhausted));
     if !is_same(here, due) {
-        tally.note(KEPT, Verdict::Differs, here, "over no word", due);
+        tally.note(Group::Kept, Verdict::Differs, here, "over no word", due);
     }
     if case.rust.is_err() {
-        // the Rust stopped at a tray that is set up here
+        // the Rust stopped at a tray that is set up here: nothing is drawn, and a count of 0 over no word stands for the set-up
         let here = Ok(Draw { count: 0, used: 0 });
-        tally.note(KEPT, Verdict::Differs, here, "rust", case.rust);
+        tally.note(Group::Kept, Verdict::Differs, here, "rust", case.rust);
         return Ok(());
     }
     draw_pairs(request, kept, case.tape, tally)
@@ -59,7 +59,13 @@ fn draw_pairs<P: Print>(
             count: *count,
             used: 1,
         });
-        tally.note(KEPT, compare(request, here, rust), here, "rust", rust);
+        tally.note(
+            Group::Kept,
+            compare(request, here, rust),
+            here,
+            "rust",
+            rust,
+        );
     }
     if left.is_empty() { Ok(()) } else { Err(Unread) }
 }

@@ -18,26 +18,31 @@ const BLOCK_WORDS: usize = 8_192;
 
 const BLOCK_BYTES: usize = 65_536;
 
-// Reads a block, and draws its cases again. Whether there was one.
-fn take_block<R: Read, P: Print>(reader: &mut R, tally: &mut Tally<P>) -> Result<bool, Unread> {
+// Reads a block; at the input's end it is empty.
+fn read_block<'a, R: Read>(
+    reader: &mut R,
+    words: &'a mut [u64; BLOCK_WORDS],
+) -> Result<&'a [u64], Unread> {
     let mut bytes = [0u8; BLOCK_BYTES];
-    let mut words = [0u64; BLOCK_WORDS];
     let n = input::fill(reader, &mut bytes).map_err(|_| Unread)?;
     if n % 8 != 0 {
         return Err(Unread);
     }
     let count = n / 8;
-    bytes_le::read_words(&bytes, count, &mut words, 0);
-    cases::draw_block(&words[..count], tally)?;
-    Ok(n > 0)
+    bytes_le::read_words(&bytes, count, words, 0);
+    Ok(&words[..count])
 }
 
-// Draws the cases of every block again. A proved loop has to end, so this one has a number of turns that no run uses up.
+// Draws the cases of every block again. A proved loop has to end, so this one has a number of turns that no run uses up; what would be left after
+// them is unread.
 fn draw_all<R: Read, P: Print>(reader: &mut R, tally: &mut Tally<P>) -> Result<(), Unread> {
+    let mut words = [0u64; BLOCK_WORDS];
     for _ in 0..u64::MAX {
-        if !take_block(reader, tally)? {
+        let block = read_block(reader, &mut words)?;
+        if block.is_empty() {
             return Ok(());
         }
+        cases::draw_block(block, tally)?;
     }
     Err(Unread)
 }

@@ -1,20 +1,20 @@
 // Draws of one request over one tape.
 use crate::cases::Case;
-use crate::tally::Tally;
+use crate::tally::{Group, Tally};
 use judge::{Verdict, is_same};
 use kinds::Request;
 use words::Answer;
 
 // Draws again what the Rust drew, and where the request has a float, once more by it.
 pub(crate) fn draw_single<P: Print>(case: Case<'_>, request: Request, tally: &mut Tally<P>) {
-    let kind = case.kind as usize;
+    let group = Group::of(request);
     let here = draws::draw(case.tape, request);
     let by_bits = here.map_err(u32::from);
     let by_float = draw_by_float(case.tape, request, here);
     if is_same(by_float, by_bits) {
-        tally.hold(case, request, kind, here);
+        tally.hold(case, request, group, here);
     } else {
-        tally.note(kind, Verdict::Differs, by_float, "by bits", by_bits);
+        tally.note(group, Verdict::Differs, by_float, "by bits", by_bits);
     }
 }
 

@@ -1,6 +1,4 @@
-// Counts of cases by kind, agreement and entry, and what is written of those that differ.
-ghost use Rattle.std.specs.Prelude.{◌<◌};
-
+// Counts of cases by group, agreement and entry, and what is written of those that differ.
 use crate::cases::Case;
 use crate::compare::compare;
 use judge::{Said, Verdict, as_marked};
@@ -8,31 +6,75 @@ use kinds::Request;
 use std::{fmt, io};
 use words::Answer;
 
-// Every kind's number is below this, and every entry's.
+// Every entry's number is below this.
 const ROW: usize = 16;
-
-// A draw from a kept tray, past every kind's number.
-pub(crate) const KEPT: usize = 15;
-
-// A fraction, likewise.
-const FRACTION: usize = 14;
 
 // So many that differ are written out.
 const FEW: u64 = 8;
 
-// The cases of a kind, and those of them that agree.
+// What is counted by itself: the draws of each kind, those from a kept tray, and fractions.
 #[derive(Clone, Copy)]
-struct Kind {
+pub(crate) enum Group {
+    Hypergeometric,
+    Kept,
+    Poisson,
+    Geometric,
+    Standard,
+    Fraction,
+}
+
+impl Group {
+    // The group of a request's kind.
+    pub(crate) fn of(request: Request) -> Group {
+        match request {
+            Request::Hypergeometric { .. } => Group::Hypergeometric,
+            Request::Poisson { .. } => Group::Poisson,
+            Request::Geometric { .. } => Group::Geometric,
+            Request::StandardGeometric => Group::Standard,
+        }
+    }
+}
+
+// How the line of a case that differs names its group: by the kind's number, and by one past every kind's where it is no kind's.
+impl fmt::Display for Group {
+    fn fmt<W: fmt::Write>(&self, f: &mut fmt::Formatter<W>) -> fmt::Result {
+        f.write_str(match self {
+            Group::Hypergeometric => "1",
+            Group::Poisson => "2",
+            Group::Geometric => "3",
+            Group::Standard => "4",
+            Group::Fraction => "14",
+            Group::Kept => "15",
+        })
+    }
+}
+
+// The cases of a group, and those of them that agree.
+#[derive(Clone, Copy)]
+struct Counts {
     cases: u64,
     agree: u64,
 }
 
-// All cases, those of each kind, those that each entry lists, and the others.
+const NONE: Counts = Counts { cases: 0, agree: 0 };
+
+impl fmt::Display for Counts {
+    fn fmt<W: fmt::Write>(&self, f: &mut fmt::Formatter<W>) -> fmt::Result {
+        write!(f, "{} agree {}", self.cases, self.agree)
+    }
+}
+
+// All cases, those of each group, those that each entry lists, by its number, and the others.
 #[derive(Drop)]
 pub(crate) struct Tally<'a, P> {
     rt: &'a P,
     cases: u64,
-    kinds: [Kind; ROW],
+    hypergeometric: Counts,
+    kept: Counts,
+    poisson: Counts,
+    geometric: Counts,
+    standard: Counts,
+    fractions: Counts,
     entries: [u64; ROW],
     others: u64,
 }
@@ -42,32 +84,37 @@ impl<'a, P: Print> Tally<'a, P> {
         Tally {
             rt,
             cases: 0,
-            kinds: [Kind { cases: 0, agree: 0 }; ROW],
+            hypergeometric: NONE,
+            kept: NONE,
+            poisson: NONE,
+            geometric: NONE,
+            standard: NONE,
+            fractions: NONE,
             entries: [0; ROW],
             others: 0,
         }
     }
 
     // Holds an answer here against what the Rust did, and the entry that the case is marked with.
-    pub(crate) fn hold(&mut self, case: Case<'_>, request: Request, kind: usize, here: Answer) {
+    pub(crate) fn hold(&mut self, case: Case<'_>, request: Request, group: Group, here: Answer) {
         let verdict = as_marked(case.entry, compare(request, here, case.rust));
-        self.note(kind, verdict, here, "rust", case.rust);
+        self.note(group, verdict, here, "rust", case.rust);
     }
 
     // Counts a case by its verdict. Of those that differ the first few are written out: the answer here, and the one that it is held against
     // after its name.
     pub(crate) fn note(
         &mut self,
-        kind: usize,
+        group: Group,
         verdict: Verdict,
         here: Answer,
         name: &str,
         due: Said,
     ) {
-        if let Some(case) = self.count(kind, verdict) {
+        if let Some(case) = self.count(group, verdict) {
             let here = Told(here.map_err(u32::from));
             let due = Told(due);
-            let _ = println!(self.rt; "differs: case {case} kind {kind} here {here} {name} {due}");
+            let _ = println!(self.rt; "differs: case {case} kind {group} here {here} {name} {due}");
         }
     }
 
@@ -78,21 +125,31 @@ impl<'a, P: Print> Tally<'a, P> {
         } else {
             Verdict::Differs
         };
-        if let Some(case) = self.count(FRACTION, verdict) {
+        if let Some(case) = self.count(Group::Fraction, verdict) {
             let _ = println!(self.rt;
                 "differs: case {case} fraction here 0x{here:016x} recorded 0x{recorded:016x}"
             );
         }
     }
 
-    // Counts a case of a kind by its verdict. Its number, where it is one of the few that are written out.
-    fn count(&mut self, kind: usize, verdict: Verdict) -> Option<u64> {
+    fn counts_of(&mut self, group: Group) -> &mut Counts {
+        match group {
+            Group::Hypergeometric => &mut self.hypergeometric,
+            Group::Kept => &mut self.kept,
+            Group::Poisson => &mut self.poisson,
+            Group::Geometric => &mut self.geometric,
+            Group::Standard => &mut self.standard,
+            Group::Fraction => &mut self.fractions,
+        }
+    }
+
+    // Counts a case of a group by its verdict. Its number, where it is one of the few that are written out.
+    fn count(&mut self, group: Group, verdict: Verdict) -> Option<u64> {
         add(&mut self.cases);
-        if let Some(kind) = self.kinds.get_mut(kind) {
-            add(&mut kind.cases);
-            if verdict == Verdict::Agrees {
-                add(&mut kind.agree);
-            }
+        let counts = self.counts_of(group);
+        add(&mut counts.cases);
+        if verdict == Verdict::Agrees {
+            add(&mut counts.agree);
         }
         match verdict {
             Verdict::Agrees => None,
@@ -110,27 +167,20 @@ impl<'a, P: Print> Tally<'a, P> {
         }
     }
 
-    // Writes all the counts, a line for each kind and each entry.
+    // Writes all the counts, a line for each group and each entry.
     pub(crate) fn report(&self) -> io::Result<()> {
-        self.report_kind("hypergeometric", 1)?;
-        self.report_kind("kept", KEPT)?;
-        self.report_kind("poisson", 2)?;
-        self.report_kind("geometric", 3)?;
-        self.report_kind("standard", 4)?;
-        self.report_kind("fraction", FRACTION)?;
+        println!(self.rt; "hypergeometric {}", self.hypergeometric)?;
+        println!(self.rt; "kept {}", self.kept)?;
+        println!(self.rt; "poisson {}", self.poisson)?;
+        println!(self.rt; "geometric {}", self.geometric)?;
+        println!(self.rt; "standard {}", self.standard)?;
+        println!(self.rt; "fraction {}", self.fractions)?;
         for entry in [1, 4, 5, 9, 10] {
             let listed = self.entries[entry];
             println!(self.rt; "entry {entry} {listed}")?;
         }
         println!(self.rt; "cases {}", self.cases)?;
         println!(self.rt; "others {}", self.others)
-    }
-
-    fn report_kind(&self, name: &str, kind: usize) -> io::Result<()>
-        requires { kind < 16 }
-    {
-        let Kind { cases, agree } = self.kinds[kind];
-        println!(self.rt; "{name} {cases} agree {agree}")
     }
 }
 
