@@ -1,7 +1,7 @@
 // `Geometric` of rand_distr's geometric.rs.
 #![tactic(auto)]
 
-ghost use Rattle.std.specs.Prelude.{◌≡◌, [], ◌∷◌, ◌-◌, ◌≤◌, ◌^◌, length};
+ghost use Rattle.std.specs.Prelude.{◌≡◌, true, [], ◌∷◌, ◌-◌, ◌≤◌, ◌^◌, length};
 ghost use Rattle.std.specs.Float.{binary64};
 ghost use Rattle.std.specs.Float.Ieee.{of_bits};
 ghost use Rattle.words.specs.Words.{most_words};
@@ -10,7 +10,7 @@ ghost use Rattle.words.specs.Rule.{reading};
 ghost use Rattle.words.specs.Refusals.{◌on◌, given};
 ghost use Rattle.words.specs.Draw.{DrawAllows};
 ghost use Rattle.words.specs.Paper.{paper};
-ghost use Rattle.geometric.specs.Geometric.{trivial_rule, geometric_reading, is_too_rare, geometric};
+ghost use Rattle.geometric.specs.Geometric.{trivial_rule, is_large, geometric_reading, is_too_rare, geometric};
 
 use std::num::f64_to_bits_with_nan;
 use words::{Answer, Draw, Refusal};
@@ -53,7 +53,8 @@ const NEVER: Draw = Draw {
 };
 
 // The draw of a probability between 0 and 1.
-// That the tape keeps to its limit is asked for, and no type says it: word_at and the other draws take the words as they are lent.
+// That the tape keeps to its limit is asked for: a type that says it would be made for one draw, and taken apart again by word_at, which takes
+// the words as they are lent.
 fn sample_valid(tape: &[u64], p: f64) -> Answer
     requires { length tape.now ≤ most_words }
     ensures { paper result ≡ given (9 on is_too_rare p ∷ []) (geometric_reading p tape.now) }
@@ -71,20 +72,21 @@ fn sample_valid(tape: &[u64], p: f64) -> Answer
     search::sample_search(tape, search::square(q))
 }
 
-// The trivial algorithm: fractions above p are failures, until one is not.
+// The trivial algorithm: fractions above p are failures, until one is not. That p is large is asked for, since at a NaN this would stop, and the
+// rules would go on: no fraction is above a NaN, and none is at most one.
 fn sample_trivial(tape: &[u64], p: f64) -> Answer
+    requires { is_large p ≡ true }
     ensures { paper result ≡ reading (trivial_rule p) tape.now }
 {
-    for failures in 0..tape.len() {
-        let w = words::word_at(tape, failures).ok_or(Refusal::Exhausted)?;
-        if words::fraction(w) <= p {
-            return Ok(Draw {
-                count: failures as u64,
-                used: failures + 1,
-            });
-        }
+    // Counted by hand: their number is what is drawn, and a `for` would need to know where the tape ends, which word_at alone says.
+    let mut failures: usize = 0;
+    while words::fraction(words::word_at(tape, failures).ok_or(Refusal::Exhausted)?) > p {
+        failures += 1;
     }
-    Err(Refusal::Exhausted)
+    Ok(Draw {
+        count: failures as u64,
+        used: failures + 1,
+    })
 }
 
 // The largest q that 31 squarings bring to 0.5 or below: 9007199251833722 / 2^53.

@@ -46,7 +46,8 @@ pub fn knuth_method(tape: &[u64], exp_lambda: f64) -> Answer
     ensures { paper result ≡ reading (knuth_rule exp_lambda) tape.now }
 {
     let first = words::word_at(tape, 0).ok_or(Refusal::Exhausted)?;
-    // The turns are counted by hand, since their number is what is drawn.
+    // Counted by hand: result is what is drawn, it starts before the second word is looked at, and a `for` would need to know where the tape ends,
+    // which word_at alone says.
     let mut result: usize = 0;
     let mut p = words::fraction(first);
     while p > exp_lambda {

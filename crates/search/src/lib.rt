@@ -37,12 +37,14 @@ pub fn square(q: f64) -> Squared
 }
 
 // d by the trivial algorithm from pi, and then the remainder.
-// That the tape keeps to its limit is asked for, and no type says it: word_at and the other draws take the words as they are lent.
+// That the tape keeps to its limit is asked for: a type that says it would be made for one draw, and taken apart again by word_at, which takes
+// the words as they are lent.
 pub fn sample_search(tape: &[u64], squared: Squared) -> Answer
     requires { length tape.now ≤ most_words }
     ensures { paper result ≡ reading (search_rule squared.q (2 ^ squared.k) squared.pi) tape.now }
 {
-    // Counted by hand, since d is a part of what is drawn.
+    // Counted by hand: d is a part of what is drawn, it starts before the first word is looked at, and a `for` would need to know where the tape
+    // ends, which word_at alone says.
     let mut d: usize = 0;
     while words::fraction(words::word_at(tape, d).ok_or(Refusal::Exhausted)?) < squared.pi {
         d += 1;

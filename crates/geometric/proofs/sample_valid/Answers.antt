@@ -9,6 +9,11 @@ use Rattle.search.proofs.Edge.{not_too_rare, too_rare, quarter_left}
 use Rattle.geometric.proofs.GeometricLaws.{search_given}
 use Rattle.geometric.proofs.sample_valid.Goals as goal
 
+-- p is large
+pub sample_trivial-requires : goal.sample_trivial-requires
+unfolding is_large of_bits round
+sample_trivial-requires c = c.if-p.true
+
 pub returns-then-p : goal.returns-then-p
 unfolding geometric_reading is_too_rare is_large of_bits round
 returns-then-p c = c.sample_trivial.ensures ∙ simp c.if-p.true
