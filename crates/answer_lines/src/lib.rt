@@ -1,4 +1,5 @@
-// The line that answers a call of the pull service, as bytes.
+// The line that answers a call of the pull service, as bytes. (Each function answers the place after what it wrote, and no struct holds bytes and place:
+// their contracts, by `Writes`, speak of each of them.)
 #![tactic(auto)]
 
 ghost use Rattle.std.specs.Prelude.{◌++◌, ◌≤◌, length};

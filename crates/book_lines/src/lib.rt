@@ -1,4 +1,5 @@
-// The listing of a book, as bytes: a header, a line for each entry, and their number; or the one line of a refusal.
+// The listing of a book, as bytes: a header, a line for each entry, and their number; or the one line of a refusal. (Each function answers the place
+// after what it wrote, and no struct holds bytes and place: their contracts, by `Writes`, speak of each of them.)
 #![tactic(auto)]
 
 ghost use Rattle.std.specs.Prelude.{◌≡◌, ◌+◌, ◌*◌, ◌≤◌, length};

@@ -1,4 +1,4 @@
-// What every call on a book begins with: the limits of tape and book, and the walk.
+// The opening of a book, which every call on one goes through.
 #![tactic(auto)]
 
 ghost use Rattle.std.specs.Prelude.{◌≡◌};
