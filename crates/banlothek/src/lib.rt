@@ -2,7 +2,7 @@
 // and says what a caller in C owes. The crate banlothek_c exports them.
 #![tactic(auto)]
 
-ghost use Rattle.std.specs.Prelude.{◌≡◌, [], ◌∷◌, ◌<◌, ◌^◌};
+ghost use Rattle.std.specs.Prelude.{◌≡◌, [], ◌∷◌, ◌<◌, ◌^◌, cond};
 ghost use Rattle.words.specs.Outcome.{used_of};
 ghost use Rattle.words.specs.Paper.{number_of, paper};
 ghost use Rattle.kinds.specs.declared.Request.TheVariants.{Hypergeometric, Poisson, Geometric, StandardGeometric};
@@ -29,14 +29,14 @@ pub struct BanlothekAnswer {
 // ---- the struct
 
 // What was drawn, and whether it is a copy.
-fn accept(copied: u32, draw: Draw) -> BanlothekAnswer
+fn accept(copied: bool, draw: Draw) -> BanlothekAnswer
     requires { draw.used < 2 ^ 32 }
-    ensures { result ≡ accepted copied draw.used draw.count }
+    ensures { result ≡ accepted (cond copied 1 0) draw.used draw.count }
 {
     let used = draw.used as u32;
     BanlothekAnswer {
         refusal: 0,
-        copied,
+        copied: u32::from(copied),
         serial: 0,
         used,
         count: draw.count,
@@ -48,7 +48,7 @@ fn count_entries(entries: u64) -> BanlothekAnswer
     ensures { result ≡ accepted 0 0 entries }
 {
     accept(
-        0,
+        false,
         Draw {
             count: entries,
             used: 0,
@@ -84,7 +84,7 @@ fn told(answer: Answer) -> BanlothekAnswer
     ensures { result ≡ plain (paper answer) }
 {
     match answer {
-        Ok(draw) => accept(0, draw),
+        Ok(draw) => accept(false, draw),
         Err(refusal) => refuse(refusal, 0),
     }
 }
@@ -124,8 +124,8 @@ fn deliver(tape: &[u64], book: &mut [u8], serial: u32, request: Request) -> Banl
     ensures { Meets of_delivery (rules.deliver tape.now book.old serial request) result book.new }
 {
     match book::deliver(tape, book, serial, request) {
-        Ok(Delivered::Fresh(draw)) => accept(0, draw),
-        Ok(Delivered::Copy(draw)) => accept(1, draw),
+        Ok(Delivered::Fresh(draw)) => accept(false, draw),
+        Ok(Delivered::Copy(draw)) => accept(true, draw),
         Err(refusal) => refuse(refusal, 0),
     }
 }
