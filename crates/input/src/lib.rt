@@ -17,6 +17,7 @@ pub fn fill<R: Read>(reader: &mut R, buf: &mut [u8]) -> io::Result<usize>
     ensures end { IfOk result (λ n. n < length buf.new → IsAtEnd (R.remaining reader.new)) }
     ensures err { OnErr result ((n : ℕ) × (n < length buf.new) × Consumes (R.remaining reader.old) (R.remaining reader.new) (take n buf.new)) }
 {
+    // the loop counts bytes by itself: how many a read gives is known only after it
     let mut have = 0;
     while have < buf.len() {
         match reader.read(&mut buf[have..])? {

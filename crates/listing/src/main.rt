@@ -4,7 +4,7 @@
 use book_lines::{LISTING_BYTES, listing};
 
 // A byte more than a book may have is enough to refuse it.
-const READ_BYTES: usize = 65_537;
+const READ_BYTES: usize = 65_536 + 1;
 
 fn main(rt: HostRuntime) {
     let mut book = [0u8; READ_BYTES];

@@ -7,10 +7,11 @@ use std::fs::{File, Files, OpenFile};
 use std::io::{ErrorKind, Write};
 use std::{fs, io, str};
 
-// The bytes of a book that is made here, and a byte more: enough to tell that a file is longer than any book.
+// The bytes of a book that is made here.
 const BOOK_BYTES: usize = 65_536;
 
-pub(crate) const READ_BYTES: usize = 65_537;
+// A byte more is enough to tell that a file is longer than any book.
+pub(crate) const READ_BYTES: usize = BOOK_BYTES + 1;
 
 // The longest name of a book, so that `.new` fits after it.
 const MOST_NAME: usize = 4091;

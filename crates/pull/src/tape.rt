@@ -22,6 +22,7 @@ fn take_all<F: Read>(file: &mut F, tape: &mut [u64]) -> Result<usize, Failure>
     ensures { IfOk result (λ n. n ≤ length tape.new) }
 {
     let mut chunk = [0u8; CHUNK_BYTES];
+    // the loop counts words by itself: how many a read gives is known only after it
     let mut words = 0;
     loop {
         let n = fill(file, &mut chunk).map_err(|_| Failure::UnreadTape)?;
