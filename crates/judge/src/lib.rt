@@ -9,8 +9,9 @@ ghost use Rattle.judge.specs.Judging as rules;
 use kinds::Request;
 use words::{Answer, Draw, Refusal};
 
-// What the Rust did: it drew; or it drew nothing that is compared, and `Err` has the number of the refusal that a draw here owes in that place: the
-// Rust stopped, or it chose a branch that is not taken here. (A number and no `Refusal`: 0 stands for an act that no case has, and no refusal is 0.)
+// What the Rust did. `Ok` is its draw. `Err` says that it left no draw to compare with, since it stopped or chose a branch that is not taken here; the
+// number is that of the refusal that a draw here has to give then. (A number and no `Refusal`: a case may name any act, and one that stands for
+// nothing is 0, which is no refusal's number.)
 pub type Said = Result<Draw, u32>;
 
 // What comes of comparing: the same answer, a difference that an entry of docs/DIFFERENCES.md lists, or one that none does. (Entries are numbers:
