@@ -3,7 +3,7 @@ use crate::failure::Failure;
 use bytes_le::all_zero;
 use input::fill;
 use std::env::Env;
-use std::fs::{File, Files, OpenFile};
+use std::fs::{File, Files, OpenFile, OpenOptions};
 use std::io::{ErrorKind, Write};
 use std::{fs, io, str};
 
@@ -85,7 +85,10 @@ impl<'a, R: Files> BookFile<'a, R> {
     // Makes a book of zeros where there was none: its bytes first, then its name, which `create_new` gives only to a file that is new.
     fn make(&self, zeros: &[u8]) -> io::Result<()> {
         self.write_next(zeros)?;
-        File::create_new(self.rt, self.path)?;
+        OpenOptions::new()
+            .write(true)
+            .create_new(true)
+            .open(self.rt, self.path)?;
         self.take_name()
     }
 
