@@ -56,6 +56,7 @@ pub fn sample(
 ) -> Answer
     ensures { DrawAllows (hypergeometric total_population_size population_with_feature sample_size) tape.now result }
 {
+    // here, since 1 comes before the parameters' refusals; sample_from's own test is for its other callers
     if words::too_long(tape) {
         return Err(Refusal::TapeTooLong);
     }
@@ -115,7 +116,8 @@ pub fn set_up(
 
 // ---- the reduction
 
-// What the reduction leaves of a population, its marked and a sample of it.
+// What the reduction leaves of a population, its marked and a sample of it. The record has these five fields again, and no `Reduced` within it:
+// document 01's form of it is flat.
 #[derive(Clone, Copy)]
 struct Reduced {
     n1: u64,
@@ -215,7 +217,8 @@ impl Hypergeometric {
         let mut u = fraction;
         let mut p = self.first;
         let mut x: u64 = 0;
-        // as a `for x in 0..bound` a draw from a kept (60, 24, 7) takes 86.2 instructions, and 82.2 as this
+        // As a `for x in 0..bound` a draw from a kept (60, 24, 7) takes 86.2 instructions, and 82.2 as this: docs/COSTS.md's row of a draw from a
+        // kept set-up is 1.00 of the Rust's.
         while u > p && x < bound {
             u -= p;
             p = next_p(self.n1, self.n2, self.k, x, p);

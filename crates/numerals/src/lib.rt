@@ -12,7 +12,7 @@ const MOST_WHOLE: u64 = 999_999_999_999_999;
 // The most digits after a decimal's point.
 const MOST_PLACES: usize = 15;
 
-// Reads digits that go on from those of `start`, up to `most`.
+// Reads digits that go on from those of `start`, up to `most`. By hand: `parse` takes a `+` before the digits, and starts anew at 0.
 fn go_on(text: &[u8], base: u32, start: u64, most: u64) -> Option<u64>
     requires { (2 ≤ base) × (base ≤ 16) × (start ≤ most) }
     ensures { result ≡ continued base start most text.now }

@@ -35,6 +35,7 @@ pub fn sample_bits(tape: &[u64], exp_lambda: u64) -> Answer
     if words::too_long(tape) {
         return Err(Refusal::TapeTooLong);
     }
+    // Two comparisons and no `contains`: of a number outside, that tells which end it is past only by way of whether the range is spent.
     if exp_lambda >= LOWEST && exp_lambda <= HIGHEST {
         return knuth_method(tape, f64::from_bits(exp_lambda));
     }

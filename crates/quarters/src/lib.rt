@@ -65,6 +65,7 @@ pub fn sample(tape: &[u64], j: u64) -> Answer
     if words::too_long(tape) {
         return Err(Refusal::TapeTooLong);
     }
+    // Two comparisons and no `contains`: of a number outside, that tells which end it is past only by way of whether the range is spent.
     if j >= 1 && j <= 47 {
         return poisson::knuth_method(tape, threshold(j));
     }

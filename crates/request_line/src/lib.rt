@@ -28,6 +28,9 @@ const CARRIAGE_RETURN: u8 = b'\r';
 
 // ---- words
 
+// Words are asked for by their place, and kept in no list: RULES' forms name each by its place, and a list would need room for as many words as a
+// line may have.
+
 // The number of words, one more than spaces.
 fn words(line: &[u8]) -> usize
     ensures { result ≡ words line.now }
@@ -71,11 +74,9 @@ fn delivery(line: &[u8]) -> Option<Line>
     ensures { result ≡ deliver_line line.now }
 {
     let serial = whole_number(word(line, 1), u64::from(u32::MAX))?;
+    let serial = u32::try_from(serial).ok()?;
     let request = request(line)?;
-    Some(Line::Deliver {
-        serial: serial as u32,
-        request,
-    })
+    Some(Line::Deliver { serial, request })
 }
 
 #[tactic(auto, unfolding(crate::specs::Forms::strike_line))]

@@ -5,8 +5,8 @@ ghost use Rattle.std.specs.Prelude.{[], ◌∷◌, ◌+◌, ◌≤◌, ◌<◌, 
 ghost use Rattle.writing.specs.Digits.{decimal};
 ghost use Rattle.writing.specs.Writing.{Writes};
 
-// Writes a text from `at` on, and answers the place after it. (Here and in the crates above bytes and place are two parameters, and no struct of
-// both: `Writes`, which the documents name, speaks of each of them.)
+// Writes a text from `at` on, and answers the place after it. Here and in lines, names, answer_lines and book_lines bytes and place are two
+// parameters, and no struct of both: `Writes`, which the documents name, states what stands where by the bytes and the place.
 pub fn put_text(out: &mut [u8], at: usize, text: &[u8]) -> usize
     requires { at + length text.now ≤ length out.old }
     ensures { Writes out.old at text.now out.new result }
@@ -24,7 +24,8 @@ fn put_digit(out: &mut [u8], at: usize, digit: u64) -> usize
     at + 1
 }
 
-// Writes a number's decimal digits from `at` on, and answers the place after them.
+// Writes a number's decimal digits from `at` on, and answers the place after them. By hand: `write!` into lent bytes goes by
+// `std::io`, and the crates below the program stay without it.
 pub fn put_decimal(out: &mut [u8], at: usize, n: u64) -> usize
     requires { at + length (decimal n) ≤ length out.old }
     ensures { Writes out.old at (decimal n) out.new result }
