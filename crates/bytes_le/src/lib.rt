@@ -12,8 +12,8 @@ pub fn read_le(bytes: &[u8], at: usize, width: usize) -> u64
     ensures { result ≡ spelled width (drop at bytes.now) }
 {
     let mut number: u64 = 0;
-    for i in (0..width).rev() {
-        number = number * 256 + u64::from(bytes[at + i]);
+    for byte in bytes[at..at + width].iter().rev() {
+        number = number * 256 + u64::from(*byte);
     }
     number
 }
@@ -30,7 +30,8 @@ pub fn write_le(bytes: &mut [u8], at: usize, width: usize, number: u64)
     }
 }
 
-// Whether every byte from `from` on is 0. No caller knows more of it than this contract.
+// Whether every byte from `from` on is 0. No caller knows more of it than this contract. Here and in `wipe` places stand beside the bytes, and not
+// a part of them: docs/PUBLIC.md names both functions, and their contracts speak of places in a book.
 pub fn all_zero(bytes: &[u8], from: usize) -> bool
     requires { from ≤ length bytes.now }
     ensures { result ≡ all_zero (drop from bytes.now) }
@@ -46,7 +47,8 @@ pub fn wipe(bytes: &mut [u8], from: usize, to: usize)
     bytes[from..to].fill(0);
 }
 
-// Reads k words of 8 bytes each into a lent tape, from `at` on.
+// Reads k words of 8 bytes each into a lent tape, from `at` on. By places: in a zip of that part with the bytes by eights the words stored stand
+// in what the iterator lent, and no proof that the tape has them was found.
 pub fn read_words(bytes: &[u8], k: usize, tape: &mut [u64], at: usize)
     requires { (8 * k ≤ length bytes.now) × (at + k ≤ length tape.old) }
     ensures { tape.new ≡ sets tape.old at (words_from k bytes.now) }
