@@ -7,9 +7,9 @@ ghost use Rattle.words.specs.Refusals.{NoneHolds};
 ghost use Rattle.writing.specs.Writing.{Writes};
 ghost use Rattle.book_lines.specs.Listing.{ListingAllows, entries_in, entry_line, entry_lines, listed, listing_refusals};
 
-use entry::{Entry, entry_at};
+use entry::Entry;
 use kinds::kind_of;
-use layout::{next_at, walk};
+use layout::{Entries, walk};
 use lines::{put_number, put_numbered, put_refused};
 use words::{MOST_WORDS, Refusal};
 use writing::put_text;
@@ -32,17 +32,13 @@ fn put_entry_line(entry: Entry, out: &mut [u8], at: usize) -> usize
 }
 
 // Writes the lines of a sound book's entries, from `at` on.
-#[tactic(auto, using(crate::proofs::Listed::entry_turns))]
 fn put_entries(book: &[u8], entries: u64, out: &mut [u8], at: usize) -> usize
     requires { NoneHolds (listing_refusals book.now) × (entries ≡ length (entries_in book.now)) × (at + 60 * entries ≤ length out.old) }
     ensures { Writes out.old at (entry_lines (entries_in book.now)) out.new result }
 {
-    let mut from: usize = 0;
     let mut to = at;
-    for _ in 0..entries {
-        let entry = entry_at(book, from);
+    for entry in Entries::of(book, entries) {
         to = put_entry_line(entry, out, to);
-        from = next_at(book, from);
     }
     to
 }

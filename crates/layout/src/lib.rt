@@ -7,7 +7,10 @@ ghost use Rattle.layout.specs.Book.{book_too_long, is_closed, head};
 ghost use Rattle.layout.specs.Sound.{offset};
 ghost use Rattle.layout.specs.Inner.{walked, Reaches};
 
+mod entries;
+
 use bytes_le::{all_zero, read_le};
+pub use entries::Entries;
 use entry::{FIXED, KIND, PLACE, SERIAL, USED};
 use kinds::length_by;
 
@@ -110,7 +113,7 @@ pub fn walk(book: &[u8], words: usize) -> Option<Standing>
     }
 }
 
-// Where the entry after the first k begins.
+// Where the entry after the first k begins. (Passed by hand: `Entries` would read each of them whole, and give no place.)
 #[tactic(auto, using(crate::proofs::Walking::offset_next), unfolding(crate::specs::Sound::offset))]
 pub fn offset_of(book: &[u8], k: u64) -> usize
     requires { Reaches book.now k }

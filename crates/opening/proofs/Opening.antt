@@ -1,12 +1,14 @@
 -- Laws of what every call begins with: 1, 11 and 12, and then the entries of a sound book. Assumes nothing.
-use mathlib.Core.Path.{◌≡◌, sym, ap, ◌∙◌}
+use mathlib.Core.Path.{◌≡◌, refl, sym, ap, ◌∙◌}
 use mathlib.Core.Bool.{Bool, true, false}
 use mathlib.Core.List.{List, [], ◌++◌}
 use mathlib.Core.Option
 use mathlib.Core.Option.{Option, some}
-use Prim.Native.Nat.{ℕ, suc, ◌+◌, ◌*◌, ◌≤◌, ◌<◌}
+use Prim.Native.Nat.{ℕ, zero, suc, ◌+◌, ◌*◌, ◌≤◌, ◌<◌}
 use native.Mathlib.Omega.{arith}
-use lib.ListN.{length, get_or, take, drop, take-append-drop}
+use lib.ListN.{length, get_or, take, drop, take-append-drop, drop_of_length-le}
+use lib.Seq.{drop-cons}
+use Rattle.layout.specs.Entries.{entries_from, Lie}
 use borrow.Author.Tests.{le-ltb, ltb-false}
 use Rattle.words.specs.Words.{most_words, too_long}
 use Rattle.words.specs.Outcome.{Outcome, drawn, refused}
@@ -148,6 +150,20 @@ module _ {long : Bool} (t : ℕ) (b : List ℕ) (by : Bytes b) (h : NoneHolds (l
     pub open_read : (at : ℕ) (e : Entry) → at ≡ offset b i → entry_at b at ≡ some e → e ≡ get_or (booked_for t b) i blank
     open_read at e ea here = cc (ap (entry_at b) ea ∙ open_entry)
 
+  -- those from the k-th on lie one after another
+  open_from : (n k : ℕ) → k + n ≡ length (booked_for t b) → Lie n b (offset b k) × (entries_from n b (offset b k) ≡ drop k (booked_for t b))
+  unfolding Lie entries_from offset
+  open_from zero k e = (tt, sym (drop_of_length-le es (omega arith)))
+  open_from (suc n) k e =
+      let l : k < length es = omega arith in
+      let r = open_from n (suc k) (omega arith) in
+      let x = open_next k l (offset b k) refl in
+      ((open_whole k l, x.0, x.1, r.0), rw (open_entry k l, r.1, drop-cons es k blank l))
+
+  pub open_all : (n : ℕ) → n ≡ length (booked_for t b) → Lie n b 0 × (entries_from n b 0 ≡ booked_for t b)
+  unfolding offset
+  open_all n e = open_from n 0 (omega arith)
+
 -- the same of what a call was told
 pub stands_room : (ws b : List ℕ) (st : Standing) → Bytes b → IsOpen ws b st
     → (st.end ≤ length b) × (st.place ≤ length ws) × (fixed_length * st.entries ≤ length b) × (length b ≤ most_bytes)
@@ -186,18 +202,13 @@ module _ (ws b : List ℕ) (st : Standing) (fits : (i : ℕ) → Fits w8 (get_or
   stands_before k at l e =
       omega (arith, open_within (length ws) b lent o.0 k (omega (arith, number)), ap (λ (x : Standing). x.end) o.1)
 
+  -- they lie one after another
+  pub stands_all : Lie st.entries b 0 × (entries_from st.entries b 0 ≡ booked ws b)
+  stands_all = open_all (length ws) b lent o.0 st.entries (sym number)
+
   -- each lies whole
   pub stands_whole : (k at : ℕ) → k < st.entries → at ≡ offset b k → HasEntry b at
   stands_whole k at l e = rw e (open_whole (length ws) b lent o.0 k (omega (arith, number)))
 
-  -- with its place on the tape
-  pub stands_place : (k at : ℕ) (e : Entry) → k < st.entries → at ≡ offset b k → entry_at b at ≡ some e → e.place ≤ length ws
-  stands_place k at e l ea here =
-      rw (open_read (length ws) b lent o.0 k (omega (arith, number)) at e ea here) (open_place (length ws) b lent o.0 k (omega (arith, number)))
-
-  -- and the one after it begins within the book
-  pub stands_next : (k at : ℕ) → k < st.entries → at ≡ offset b k → (at + 2 ≤ length b) × (at + length_at b at ≤ length b)
-  stands_next k at l ea = open_next (length ws) b lent o.0 k (omega (arith, number)) at ea
-
 -- what every call's beginning gives it, for `grind`
-pub ruleset standings = (sound_opening, stands_few, stands_within, stands_on_tape, stands_reach, stands_before, stands_whole, stands_place, stands_next)
+pub ruleset standings = (sound_opening, stands_few, stands_within, stands_on_tape, stands_reach, stands_before, stands_all, stands_whole)

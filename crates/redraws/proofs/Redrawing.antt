@@ -4,13 +4,11 @@ use mathlib.Core.Bool.{Bool, true, false, cond, not, ◌&&◌}
 use mathlib.Core.List.{List, [], ◌∷◌}
 use mathlib.Core.Logic.{inl, inr}
 use mathlib.Core.Option.{Option, none, some}
-use Prim.Native.Nat.{ℕ, zero, suc, ◌+◌, ◌-◌, ◌<◌, ◌≤◌, suc-le-suc}
+use Prim.Native.Nat.{ℕ, zero, suc, ◌-◌, ◌<◌, ◌≤◌, suc-le-suc}
 use native.Mathlib.Nat.{zero-lt-suc, le_of_suc-le-suc, not-suc-le-zero}
-use native.Mathlib.Numerals.{add-one}
 use native.Mathlib.Omega.{arith}
 use lib.Dec.{eqb}
-use lib.ListN.{length, get_or, take, drop, drop_of_length-le}
-use lib.Seq.{drop-cons}
+use lib.ListN.{length, get_or, take, drop}
 use borrow.Author.Tests.{ne_eqb}
 use Rattle.words.specs.Outcome.{Outcome, drawn, refused}
 use Rattle.words.specs.declared.Draw.{Draw}
@@ -18,22 +16,21 @@ use Rattle.words.specs.declared.Refusal.{Refusal}
 use Rattle.words.specs.Paper.{Answer, paper, told, number_of}
 use Rattle.words.specs.Inner.{drew}
 use Rattle.words.proofs.Tape.{lent_from}
-use Rattle.std.specs.Prelude.{Ok, Err}
+use Rattle.std.specs.Prelude.{Ok, Err, ⊤}
 use Rattle.std.specs.Result.{result_eq}
 use Rattle.std.proofs.Common.{Fits, w8}
 use Rattle.words.specs.Refusals.{Condition, ◌on◌, given, First, NoneHolds}
 use Rattle.bytes_le.proofs.Numbers.{Bytes}
 use Rattle.draws.specs.Request.{draw_of}
 use Rattle.entry.specs.declared.Entry.{Entry}
-use Rattle.entry.specs.Entry.{entry_at, blank}
-use Rattle.layout.specs.Sound.{offset}
+use Rattle.entry.specs.Entry.{blank}
+use Rattle.layout.specs.Entries.{entries_from}
 use Rattle.opening.specs.Calls.{booked, limits}
 use Rattle.layout.specs.Book.{is_none}
 use Rattle.redraws.specs.Redraw.{is_drawn, agrees, lowest, redraw_refusals, Redrawing, naming, redraw_of, redraw}
 use Rattle.opening.specs.Inner.{IsOpen, opened}
 use Rattle.layout.specs.declared.Standing.{Standing}
-use Rattle.layout.proofs.Walking.{offset_next}
-use Rattle.opening.proofs.Opening.{past_limits, stopped, refused_opening, open_read}
+use Rattle.opening.proofs.Opening.{past_limits, stopped, refused_opening, open_place, stands_all}
 
 -- ---- the limits' refusals are not 17
 
@@ -78,22 +75,26 @@ module _ (ws b : List ℕ) where
     unfolding later
     redraw_differs s e = sym (past ∙ ap later e)
 
--- ---- a turn: the first i agree
+-- ---- a turn over the entries that are left
 
-module _ (ws : List ℕ) (es : List Entry) (d : Entry) (i : ℕ) (l : i < length es) (same : lowest ws (drop i es) ≡ lowest ws es) where
-  at_front : lowest ws es ≡ cond (agrees ws (get_or es i d)) (lowest ws (drop (suc i) es)) (some (get_or es i d).serial)
+-- each has its place on a tape of t words
+unfoldable pub OnTape : ℕ → List Entry → Type 0
+OnTape t [] = ⊤
+OnTape t (e ∷ es) = (e.place ≤ t) × OnTape t es
+
+on_tape : (t : ℕ) (es : List Entry) (d : Entry) → ((i : ℕ) → i < length es → (get_or es i d).place ≤ t) → OnTape t es
+unfolding OnTape
+on_tape t [] d h = tt
+on_tape t (e ∷ es) d h = (h 0 (omega arith), on_tape t es d (λ i l. h (suc i) (omega arith)))
+
+module _ (s : List Entry) (e : Entry) (es : List Entry) (is : s ≡ e ∷ es) where
+  pub on_first : (t : ℕ) → OnTape t s → (e.place ≤ t) × OnTape t es
+  unfolding OnTape
+  on_first t h = rw is at h
+
+  at_front : (ws : List ℕ) → lowest ws s ≡ cond (agrees ws e) (lowest ws es) (some e.serial)
   unfolding lowest
-  at_front = sym same ∙ ap (lowest ws) (drop-cons es i d l)
-
-  pub turn_agrees : agrees ws (get_or es i d) ≡ true → lowest ws (drop (i + 1) es) ≡ lowest ws es
-  turn_agrees e = sym (at_front ∙ rw e (ap (λ (k : ℕ). lowest ws (drop k es)) (sym (add-one i))))
-
-  pub turn_differs : agrees ws (get_or es i d) ≡ false → lowest ws es ≡ some (get_or es i d).serial
-  turn_differs e = at_front ∙ rw e
-
-pub turns_done : (ws : List ℕ) (es : List Entry) (i : ℕ) → length es ≤ i → lowest ws (drop i es) ≡ lowest ws es → lowest ws es ≡ none
-unfolding lowest
-turns_done ws es i h same = sym same ∙ ap (lowest ws) (drop_of_length-le es h)
+  at_front ws = ap (lowest ws) is
 
 -- ---- the serial that is named: its entry does not agree, and every entry before it does
 
@@ -144,26 +145,26 @@ module _ (ws b : List ℕ) where
     number : length (booked ws b) ≡ st.entries
     number = ap (λ (x : Standing). x.entries) o.1
 
-    module _ (fits : (i : ℕ) → Fits w8 (get_or b i 0)) (i : ℕ) (l : i < st.entries) (at : ℕ) (ea : at ≡ offset b i)
-        (same : lowest ws (drop i (booked ws b)) ≡ lowest ws (booked ws b)) (e : Entry) (here : entry_at b at ≡ some e) (z : Bool) (ez : z ≡ agrees ws e) where
-      is : e ≡ get_or (booked ws b) i blank
-      is = let by : Bytes b = λ k. (fits k).fits in open_read (length ws) b by o.0 i (omega (arith, number)) at e ea here
+    -- the entries that are left at first are all
+    pub redraw_starts : ((i : ℕ) → Fits w8 (get_or b i 0)) → (s : List Entry) → s ≡ entries_from st.entries b 0
+        → OnTape (length ws) s × (lowest ws s ≡ lowest ws (booked ws b))
+    redraw_starts fits s e =
+        let by : Bytes b = λ i. (fits i).fits in
+        let is : s ≡ booked ws b = e ∙ (stands_all ws b st fits o).1 in
+        (rw is (on_tape (length ws) (booked ws b) blank (open_place (length ws) b by o.0)), ap (lowest ws) is)
 
-      tested : agrees ws (get_or (booked ws b) i blank) ≡ z
-      tested = ap (agrees ws) (sym is) ∙ sym ez
+    module _ (s : List Entry) (left : lowest ws s ≡ lowest ws (booked ws b)) where
+      pub goes_on : (e : Entry) (es : List Entry) → s ≡ e ∷ es → (z : Bool) → z ≡ agrees ws e → z ≡ true → lowest ws es ≡ lowest ws (booked ws b)
+      goes_on e es is z ez y = sym (at_front s e es is ws ∙ rw (← ez, y)) ∙ left
 
-      pub goes_on : z ≡ true → lowest ws (drop (i + 1) (booked ws b)) ≡ lowest ws (booked ws b)
-      goes_on y = turn_agrees ws (booked ws b) blank i (omega (arith, number)) same (tested ∙ y)
+      pub differs_here : (e : Entry) (es : List Entry) → s ≡ e ∷ es → (z : Bool) → z ≡ agrees ws e → z ≡ false
+          → record { outcome = refused 17; named = some e.serial } ≡ redraw ws b
+      differs_here e es is z ez n = redraw_differs ws b o.0 e.serial (sym left ∙ at_front s e es is ws ∙ rw (← ez, n))
 
-      pub differs_here : z ≡ false → record { outcome = refused 17; named = some e.serial } ≡ redraw ws b
-      differs_here n =
-          redraw_differs ws b o.0 e.serial
-          (turn_differs ws (booked ws b) blank i (omega (arith, number)) same (tested ∙ n) ∙ ap (λ (x : Entry). some x.serial) (sym is))
+      pub all_agree : s ≡ [] → record { outcome = drawn st.entries 0; named = none } ≡ redraw ws b
+      unfolding lowest
+      all_agree is =
+          ap (λ (k : ℕ). record { outcome = drawn k 0; named = none }) (sym number)
+          ∙ redraw_agrees ws b o.0 (sym left ∙ ap (lowest ws) is)
 
-    pub all_agree : (i : ℕ) → st.entries ≤ i → lowest ws (drop i (booked ws b)) ≡ lowest ws (booked ws b)
-        → record { outcome = drawn st.entries 0; named = none } ≡ redraw ws b
-    all_agree i l same =
-        ap (λ (k : ℕ). record { outcome = drawn k 0; named = none }) (sym number)
-        ∙ redraw_agrees ws b o.0 (turns_done ws (booked ws b) i (omega (arith, number)) same)
-
-pub ruleset turns = (redraw_refused, goes_on, differs_here, all_agree, offset_next)
+pub ruleset turns = (redraw_refused, on_first, goes_on, all_agree)

@@ -4,8 +4,8 @@
 ghost use Rattle.std.specs.Prelude.{◌≡◌, ◌≤◌, length};
 ghost use Rattle.redraws.specs.Redraw.{RedrawAllows, agrees};
 
-use entry::{Entry, entry_at};
-use layout::next_at;
+use entry::Entry;
+use layout::Entries;
 use opening::open_book;
 use words::{Draw, Refusal};
 
@@ -25,20 +25,17 @@ fn agrees_on(tape: &[u64], entry: Entry) -> bool
 }
 
 // Draws every entry again from its place. The book is only read.
-#[tactic(auto, using(opening::proofs::Opening::standings, crate::proofs::Redrawing::turns), unfolding(layout::specs::Sound::offset))]
+#[tactic(auto, using(opening::proofs::Opening::standings, crate::proofs::Redrawing::turns))]
 pub fn redraw(tape: &[u64], book: &[u8]) -> Result<Redrawn, Refusal>
     ensures { RedrawAllows tape.now book.now result }
 {
     let standing = open_book(tape, book)?;
-    let mut at: usize = 0;
-    for _ in 0..standing.entries {
-        let entry = entry_at(book, at);
+    for entry in Entries::of(book, standing.entries) {
         if !agrees_on(tape, entry) {
             return Ok(Redrawn::Differs {
                 serial: entry.serial,
             });
         }
-        at = next_at(book, at);
     }
     Ok(Redrawn::Agrees {
         entries: standing.entries,

@@ -1,10 +1,10 @@
--- The loop's invariant: the lowest serial that differs is the one among the entries left. Assumes nothing.
-use Rattle.std.proofs.Common.{◌≡◌, drop}
-use Rattle.layout.specs.Sound.{offset}
+-- The loop's invariant: the lowest serial that differs is the one among the entries left, and each of them has its place on the tape. Assumes nothing.
+use Rattle.std.proofs.Common.{◌≡◌, length}
 use Rattle.opening.specs.Calls.{booked}
 use Rattle.redraws.specs.Redraw.{lowest}
+use Rattle.redraws.proofs.Redrawing.{OnTape}
 use Rattle.redraws.proofs.redraw.Given as goal
 
-abbrev pub invariant-loop : goal.invariant-loop
-invariant-loop l =
-    (l.at ≡ offset l.book l.counter) × (lowest l.tape (drop l.counter (booked l.tape l.book)) ≡ lowest l.tape (booked l.tape l.book))
+abbrev pub invariant-loop-entry : goal.invariant-loop-entry
+invariant-loop-entry l =
+    OnTape (length l.tape) l.entry-iterator × (lowest l.tape l.entry-iterator ≡ lowest l.tape (booked l.tape l.book))
