@@ -81,7 +81,8 @@ pub fn struck_line(answer: Result<u64, Refusal>, out: &mut [u8; ANSWER_BYTES]) -
     }
 }
 
-// The line that answers a strike from another number of entries than stand: these.
+// The line that answers a strike from another number of entries than stand: these. (Here and at `unread_line` the words are all that differs: one
+// function with the words handed in is `put_numbered`.)
 #[tactic(auto, unfolding(crate::specs::Answers::kept_line, lines::specs::Lines::line))]
 pub fn kept_line(entries: u64, out: &mut [u8; ANSWER_BYTES]) -> usize
     ensures { Writes out.old 0 (kept_line entries) out.new result }

@@ -47,7 +47,7 @@ impl Model for Hypergeometric {
 // ---- the draw
 
 // The hypergeometric draw: the marked among sample_size things, taken without replacement from total_population_size things of which
-// population_with_feature are marked.
+// population_with_feature are marked. (The three one by one, here and at `set_up`: C and docs/PUBLIC.md have them so.)
 pub fn sample(
     tape: &[u64],
     total_population_size: u64,

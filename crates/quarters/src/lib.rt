@@ -58,7 +58,8 @@ const THRESHOLDS: [u64; 47] = [
     35530360351,
 ];
 
-// The draw with the mean j / 4.
+// The draw with the mean j / 4. (Its tests are like those of `poisson::sample_bits`, but of another range and with another refusal; what follows them
+// is one function.)
 pub fn sample(tape: &[u64], j: u64) -> Answer
     ensures { DrawAllows (quarters «j») tape.now result }
 {

@@ -15,7 +15,7 @@ const FRACTION: u64 = 1_002;
 #[derive(Clone, Copy)]
 pub(crate) struct Unread;
 
-// A case: its kind, three parameters, what the Rust did, the entry, and the tape.
+// A case: its kind, three parameters, what the Rust did, the entry, and the tape. (A kind is the file's number: two of them are no request's.)
 #[derive(Clone, Copy)]
 pub(crate) struct Case<'a> {
     pub(crate) kind: u64,
