@@ -2,19 +2,20 @@
 // and says what a caller in C owes. The crate banlothek_c exports them.
 #![tactic(auto)]
 
-ghost use Rattle.std.specs.Prelude.{◌≡◌, [], ◌∷◌, ◌<◌, ◌^◌};
+ghost use Rattle.std.specs.Prelude.{◌≡◌, [], ◌∷◌, ◌<◌, ◌^◌, cond};
 ghost use Rattle.words.specs.Outcome.{used_of};
 ghost use Rattle.words.specs.Paper.{number_of, paper};
 ghost use Rattle.kinds.specs.declared.Request.TheVariants.{Hypergeometric, Poisson, Geometric, StandardGeometric};
 ghost use Rattle.book.specs.Deliver as rules;
 ghost use Rattle.banlothek.specs.Face.{DeliverTells, DrawTells, Meets, RedrawTells, StrikeTells, accepted, no_such_kind, of_delivery, plain, refused_by, version};
 
-use book::{Delivered, Struck};
-use kinds::{Request, Row, row_of};
+use book::Delivered;
+use kinds::{Request, row_of};
 use redraws::Redrawn;
-use words::{Answer, Draw, Refusal, number};
+use words::{Answer, Draw, Refusal};
 
-// What every function answers. The header's `banlothek_answer` has these fields in this order.
+// What every function answers. The header's `banlothek_answer` has these fields in this order: C is told by numbers which refusal it is and whether
+// it is a copy.
 #[repr(C)]
 #[derive(Clone, Copy)]
 pub struct BanlothekAnswer {
@@ -28,14 +29,14 @@ pub struct BanlothekAnswer {
 // ---- the struct
 
 // What was drawn, and whether it is a copy.
-fn accept(copied: u32, draw: Draw) -> BanlothekAnswer
+fn accept(copied: bool, draw: Draw) -> BanlothekAnswer
     requires { draw.used < 2 ^ 32 }
-    ensures { result ≡ accepted copied draw.used draw.count }
+    ensures { result ≡ accepted (cond copied 1 0) draw.used draw.count }
 {
     let used = draw.used as u32;
     BanlothekAnswer {
         refusal: 0,
-        copied,
+        copied: u32::from(copied),
         serial: 0,
         used,
         count: draw.count,
@@ -46,20 +47,28 @@ fn accept(copied: u32, draw: Draw) -> BanlothekAnswer
 fn count_entries(entries: u64) -> BanlothekAnswer
     ensures { result ≡ accepted 0 0 entries }
 {
-    BanlothekAnswer {
-        refusal: 0,
-        copied: 0,
-        serial: 0,
-        used: 0,
-        count: entries,
-    }
+    accept(
+        false,
+        Draw {
+            count: entries,
+            used: 0,
+        },
+    )
 }
 
+// A refusal, and the serial that it names.
 fn refuse(refusal: Refusal, serial: u32) -> BanlothekAnswer
     ensures { result ≡ refused_by (number_of refusal) serial }
 {
+    refuse_by(u32::from(refusal), serial)
+}
+
+// The same by its number.
+fn refuse_by(refusal: u32, serial: u32) -> BanlothekAnswer
+    ensures { result ≡ refused_by refusal serial }
+{
     BanlothekAnswer {
-        refusal: number(refusal),
+        refusal,
         copied: 0,
         serial,
         used: 0,
@@ -67,7 +76,7 @@ fn refuse(refusal: Refusal, serial: u32) -> BanlothekAnswer
     }
 }
 
-// ---- draws, each by its own kind's function: a caller that asks for one kind need not pay for a choice among four
+// ---- draws, each by its own kind's function, which C calls by its name: a caller that asks for one kind need not pay for a choice among four
 
 // A draw's answer.
 fn told(answer: Answer) -> BanlothekAnswer
@@ -75,8 +84,8 @@ fn told(answer: Answer) -> BanlothekAnswer
     ensures { result ≡ plain (paper answer) }
 {
     match answer {
-        Answer::Drawn(draw) => accept(0, draw),
-        Answer::Refused(refusal) => refuse(refusal, 0),
+        Ok(draw) => accept(false, draw),
+        Err(refusal) => refuse(refusal, 0),
     }
 }
 
@@ -115,26 +124,14 @@ fn deliver(tape: &[u64], book: &mut [u8], serial: u32, request: Request) -> Banl
     ensures { Meets of_delivery (rules.deliver tape.now book.old serial request) result book.new }
 {
     match book::deliver(tape, book, serial, request) {
-        Delivered::Fresh(draw) => accept(0, draw),
-        Delivered::Copy(draw) => accept(1, draw),
-        Delivered::Refused(refusal) => refuse(refusal, 0),
+        Ok(Delivered::Fresh(draw)) => accept(false, draw),
+        Ok(Delivered::Copy(draw)) => accept(true, draw),
+        Err(refusal) => refuse(refusal, 0),
     }
 }
 
 // What a number that is no kind's is refused by: a number of these functions alone, since the rules know no request of such a kind.
 const NO_SUCH_KIND: u32 = 100;
-
-fn no_such_kind() -> BanlothekAnswer
-    ensures { result ≡ refused_by no_such_kind 0 }
-{
-    BanlothekAnswer {
-        refusal: NO_SUCH_KIND,
-        copied: 0,
-        serial: 0,
-        used: 0,
-        count: 0,
-    }
-}
 
 // By a kind's number, so that a kind to come needs no function of its own. The table of kinds says what it asks for; its numbers have 16 bits, as
 // in a book.
@@ -149,16 +146,12 @@ pub fn banlothek_deliver(
 ) -> BanlothekAnswer
     ensures { DeliverTells tape.now book.old serial kind (first ∷ second ∷ third ∷ []) result book.new }
 {
-    if kind > 65535 {
-        return no_such_kind();
-    }
-    match row_of(kind as u16, first, second, third) {
-        Row::Of {
-            length: _,
-            parameters: _,
-            request,
-        } => deliver(tape, book, serial, request),
-        Row::Unknown => no_such_kind(),
+    let Ok(kind) = u16::try_from(kind) else {
+        return refuse_by(NO_SUCH_KIND, 0);
+    };
+    match row_of(kind, first, second, third) {
+        Some(row) => deliver(tape, book, serial, row.request),
+        None => refuse_by(NO_SUCH_KIND, 0),
     }
 }
 
@@ -166,8 +159,8 @@ pub fn banlothek_strike(tape: &[u64], book: &mut [u8], j: u64) -> BanlothekAnswe
     ensures { StrikeTells tape.now book.old j result book.new }
 {
     match book::strike(tape, book, j) {
-        Struck::Left { entries } => count_entries(entries),
-        Struck::Refused(refusal) => refuse(refusal, 0),
+        Ok(entries) => count_entries(entries),
+        Err(refusal) => refuse(refusal, 0),
     }
 }
 
@@ -175,9 +168,9 @@ pub fn banlothek_redraw(tape: &[u64], book: &[u8]) -> BanlothekAnswer
     ensures { RedrawTells tape.now book.now result }
 {
     match redraws::redraw(tape, book) {
-        Redrawn::Agrees { entries } => count_entries(entries),
-        Redrawn::Differs { serial } => refuse(Refusal::RedrawDiffers, serial as u32),
-        Redrawn::Refused(refusal) => refuse(refusal, 0),
+        Ok(Redrawn::Agrees { entries }) => count_entries(entries),
+        Ok(Redrawn::Differs { serial }) => refuse(Refusal::RedrawDiffers, serial as u32),
+        Err(refusal) => refuse(refusal, 0),
     }
 }
 

@@ -5,7 +5,8 @@ use mathlib.Core.List.{List, [], ◌∷◌}
 use mathlib.Core.Option.{some}
 use Prim.Native.Nat.{ℕ, ◌+◌, ◌-◌, ◌<◌}
 use native.Mathlib.Omega.{arith}
-use lib.ListN.{length, drop}
+use lib.ListN.{length, get_or, drop}
+use Rattle.std.proofs.Common.{Fits, w8}
 use borrow.Author.Tests.{lt-ltb, le-ltb, eq-eqb, ne_eqb}
 use Rattle.words.specs.Outcome.{Outcome, drawn, refused}
 use Rattle.words.specs.declared.Draw.{Draw}
@@ -15,16 +16,17 @@ use Rattle.words.proofs.Exactly.{none_given}
 use Rattle.bytes_le.proofs.Numbers.{Bytes}
 use Rattle.kinds.specs.declared.Request.{Request}
 use Rattle.kinds.specs.Kinds.{same_request}
+use Rattle.kinds.proofs.Requests.{same_exactly}
 use Rattle.entry.specs.declared.Entry.{Entry}
 use Rattle.layout.specs.declared.Standing.{Standing}
 use Rattle.entry.specs.Entry.{entry_at}
 use Rattle.layout.specs.Sound.{offset}
 use Rattle.opening.specs.Calls.{Call, call, booked, limits}
-use Rattle.opening.specs.Inner.{IsOpen}
+use Rattle.opening.specs.Inner.{IsOpen, opened}
 use Rattle.layout.specs.Standing.{standing}
 use Rattle.book.specs.Deliver.{Booking, copy, is_next, is_ahead, booked_at, is_reused, when_next, fresh_refusals, deliver_refusals, copied, delivery, delivering, deliver_to, deliver}
 use Rattle.book.specs.Inner.{fresh_delivery}
-use Rattle.opening.proofs.Opening.{past_limits, stopped, open_read}
+use Rattle.opening.proofs.Opening.{past_limits, stopped, refused_opening, open_read}
 
 -- of a serial that is not next no condition of a fresh delivery holds: no copy is refused by them
 pub copy_unrefused : (cs : List Condition) → NoneHolds (when_next false cs)
@@ -105,28 +107,49 @@ module _ (ws b : List ℕ) (s : ℕ) (r : Request) where
 
 -- ---- what an entry answers
 
--- by whether its request is the same as r
-module _ (e : Entry) (r : Request) (z : Bool) (ez : z ≡ same_request e.request r) where
-  pub copy_told : z ≡ true → (d : Draw) → d ≡ drew e.count e.used
-      → drawn (copy d.count) d.used ≡ given (14 on not (same_request e.request r) ∷ []) (copied e)
-  copy_told y d ed = rw (← ez, y) (ap (λ (x : Draw). drawn (copy x.count) x.used) ed)
+-- a request is the same as one exactly where they are equal
+pub copy_equal : (e : Entry) (r : Request) (d : Draw) → e.request ≡ r → d ≡ drew e.count e.used
+    → drawn (copy d.count) d.used ≡ given (14 on not (same_request e.request r) ∷ []) (copied e)
+copy_equal e r d is ed = rw ((same_exactly e.request r).1 is) (ap (λ (x : Draw). drawn (copy x.count) x.used) ed)
 
-  pub copy_refused : z ≡ false → refused 14 ≡ given (14 on not (same_request e.request r) ∷ []) (copied e)
-  copy_refused n = rw (← ez, n)
+pub copy_other : (e : Entry) (r : Request) → (e.request ≡ r → ⊥) → refused 14 ≡ given (14 on not (same_request e.request r) ∷ []) (copied e)
+copy_other e r other = go (same_request e.request r) refl
+  where
+    go : (z : Bool) → same_request e.request r ≡ z → refused 14 ≡ given (14 on not z ∷ []) (copied e)
+    go true s = absurd (other ((same_exactly e.request r).0 s))
+    go false s = refl
 
--- the entry of the serial s gives a delivery's answer
-pub copy_answers : (ws b : List ℕ) (s : ℕ) (r : Request) → Bytes b → NoneHolds (limits ws b) → (s ≡ 0 → ⊥) → s < length (booked ws b) + 1
-    → (i : ℕ) → i ≡ offset b (s - 1) → (e : Entry) → entry_at b i ≡ some e → (o : Outcome Booking)
-    → o ≡ given (14 on not (same_request e.request r) ∷ []) (copied e) → call o b ≡ deliver ws b s r
-copy_answers ws b s r by h nz l i ei e here o eo =
-    let is : e ≡ booked_at (booked ws b) s = open_read (length ws) b by h (s - 1) (omega (arith, nz)) i e ei here in
-    ap (λ (x : Outcome Booking). call x b) (eo ∙ ap (λ (x : Entry). given (14 on not (same_request x.request r) ∷ []) (copied x)) is)
-    ∙ deliver_copy ws b s r h nz l
+-- ---- by what the call began with
 
--- a serial that is next is answered by how the book stands
-pub fresh_answers : (ws b : List ℕ) (st : Standing) (s : ℕ) (r : Request) → IsOpen ws b st → s ≡ st.entries + 1
-    → (c : Call Booking) → c ≡ fresh_delivery ws b st r → c ≡ deliver ws b s r
-fresh_answers ws b st s r o es c ec =
-    ec
-    ∙ ap (λ (x : Standing). fresh_delivery ws b x r) (sym o.1)
-    ∙ deliver_fresh ws b s r o.0 (es ∙ ap (λ (x : Standing). x.entries + 1) (sym o.1))
+module _ (ws b : List ℕ) (s : ℕ) (r : Request) where
+  pub deliver_refused : (n : ℕ) → refused n ≡ opened ws b → call (refused n) b ≡ deliver ws b s r
+  deliver_refused n e = deliver_stopped ws b s r n (refused_opening ws b n e)
+
+  module _ (st : Standing) (o : IsOpen ws b st) where
+    number : length (booked ws b) ≡ st.entries
+    number = ap (λ (x : Standing). x.entries) o.1
+
+    pub deliver_none : s ≡ 0 → call (refused 13) b ≡ deliver ws b s r
+    deliver_none z = deliver_zero ws b s r o.0 z
+
+    pub deliver_over : st.entries + 1 < s → call (refused 13) b ≡ deliver ws b s r
+    deliver_over a = deliver_ahead ws b s r o.0 (λ z. omega arith) (omega (arith, number))
+
+    -- the entry of the serial s gives a copy's answer
+    pub copy_answers : ((i : ℕ) → Fits w8 (get_or b i 0)) → (s ≡ 0 → ⊥) → s < st.entries + 1 → (i : ℕ) → i ≡ offset b (s - 1)
+        → (e : Entry) → entry_at b i ≡ some e → (x : Outcome Booking)
+        → x ≡ given (14 on not (same_request e.request r) ∷ []) (copied e) → call x b ≡ deliver ws b s r
+    copy_answers fits nz l i ei e here x ex =
+        let by : Bytes b = λ k. (fits k).fits in
+        let is : e ≡ booked_at (booked ws b) s = open_read (length ws) b by o.0 (s - 1) (omega (arith, nz, number)) i e ei here in
+        ap (λ (y : Outcome Booking). call y b) (ex ∙ ap (λ (y : Entry). given (14 on not (same_request y.request r) ∷ []) (copied y)) is)
+        ∙ deliver_copy ws b s r o.0 nz (omega (arith, number))
+
+    -- a serial that is next is answered by how the book stands
+    pub fresh_answers : s ≡ st.entries + 1 → (c : Call Booking) → c ≡ fresh_delivery ws b st r → c ≡ deliver ws b s r
+    fresh_answers es c ec =
+        ec
+        ∙ ap (λ (x : Standing). fresh_delivery ws b x r) (sym o.1)
+        ∙ deliver_fresh ws b s r o.0 (es ∙ ap (λ (x : Standing). x.entries + 1) (sym o.1))
+
+pub ruleset deliveries = (deliver_refused, deliver_none, deliver_over, copy_answers, fresh_answers)

@@ -4,7 +4,8 @@ use mathlib.Core.List.{List, [], ◌∷◌}
 use Prim.Native.Nat.{ℕ, ◌-◌, ◌<◌, ◌≤◌}
 use native.Mathlib.Omega.{arith}
 use lib.Dec.{ltb}
-use lib.ListN.{length, take}
+use lib.ListN.{length, get_or, take}
+use Rattle.std.proofs.Common.{Fits, w8}
 use borrow.Author.Tests.{lt-ltb, le-ltb}
 use Rattle.words.specs.Outcome.{Outcome, drawn, refused}
 use Rattle.words.specs.Refusals.{Condition, ◌on◌, given, First, NoneHolds}
@@ -15,9 +16,9 @@ use Rattle.layout.specs.declared.Standing.{Standing}
 use Rattle.layout.specs.Book.{length_all}
 use Rattle.layout.specs.Sound.{offset}
 use Rattle.opening.specs.Calls.{Call, call, booked, limits}
-use Rattle.opening.specs.Inner.{IsOpen}
+use Rattle.opening.specs.Inner.{IsOpen, opened}
 use Rattle.book.specs.Strike.{strike_refusals, left_by, striking, strike_in, strike}
-use Rattle.opening.proofs.Opening.{past_limits, stopped, open_offset}
+use Rattle.opening.proofs.Opening.{past_limits, stopped, refused_opening, open_offset}
 
 module _ (ws b : List ℕ) (j : ℕ) where
   abbrev es : List Entry
@@ -53,14 +54,27 @@ module _ (ws b : List ℕ) (j : ℕ) where
         go : later ≡ call (drawn (length es - j) 0) (wiped (length_all (left_by j es)) (length_all es) b)
         go = rw (le-ltb (length es) j m)
 
--- what the code leaves: of a book that stands as told, the entries from i on are wiped
-pub struck_left : (ws b : List ℕ) (j : ℕ) → Bytes b → (st : Standing) → IsOpen ws b st
-    → j ≤ st.entries → (i : ℕ) → i ≡ offset b (st.entries - j) → (b' : List ℕ) → b' ≡ wiped i st.end b → call (drawn (st.entries - j) 0) b' ≡ strike ws b j
-struck_left ws b j by st o l i ei b' eb =
-    let en : st.entries ≡ length (booked ws b) = ap (λ (x : Standing). x.entries) (sym o.1) in
-    let ee : st.end ≡ length_all (booked ws b) = ap (λ (x : Standing). x.end) (sym o.1) in
-    let there : i ≡ length_all (left_by j (booked ws b)) =
-    ei ∙ open_offset (length ws) b by o.0 (st.entries - j) (omega arith) ∙ ap (λ (k : ℕ). length_all (take (k - j) (booked ws b))) en in
-    ap (call (drawn (st.entries - j) 0)) (eb ∙ λ k. wiped (there k) (ee k) b)
-    ∙ ap (λ (k : ℕ). call (drawn (k - j) 0) (wiped (length_all (left_by j (booked ws b))) (length_all (booked ws b)) b)) en
-    ∙ strike_done ws b j o.0 (omega arith)
+-- ---- by what the call began with
+
+module _ (ws b : List ℕ) (j : ℕ) where
+  pub strike_refused : (n : ℕ) → refused n ≡ opened ws b → call (refused n) b ≡ strike ws b j
+  strike_refused n e = strike_stopped ws b j n (refused_opening ws b n e)
+
+  module _ (st : Standing) (o : IsOpen ws b st) where
+    pub strike_over : st.entries < j → call (refused 16) b ≡ strike ws b j
+    strike_over m = strike_many ws b j o.0 (omega (arith, ap (λ (x : Standing). x.entries) o.1))
+
+    -- of a book that stands as told, the entries from i on are wiped
+    pub struck_left : ((i : ℕ) → Fits w8 (get_or b i 0)) → j ≤ st.entries → (i : ℕ) → i ≡ offset b (st.entries - j)
+        → (c : List ℕ) → c ≡ wiped i st.end b → call (drawn (st.entries - j) 0) c ≡ strike ws b j
+    struck_left fits l i ei c eb =
+        let by : Bytes b = λ k. (fits k).fits in
+        let en : st.entries ≡ length (booked ws b) = ap (λ (x : Standing). x.entries) (sym o.1) in
+        let ee : st.end ≡ length_all (booked ws b) = ap (λ (x : Standing). x.end) (sym o.1) in
+        let there : i ≡ length_all (left_by j (booked ws b)) =
+        ei ∙ open_offset (length ws) b by o.0 (st.entries - j) (omega arith) ∙ ap (λ (k : ℕ). length_all (take (k - j) (booked ws b))) en in
+        ap (call (drawn (st.entries - j) 0)) (eb ∙ λ k. wiped (there k) (ee k) b)
+        ∙ ap (λ (k : ℕ). call (drawn (k - j) 0) (wiped (length_all (left_by j (booked ws b))) (length_all (booked ws b)) b)) en
+        ∙ strike_done ws b j o.0 (omega arith)
+
+pub ruleset strikes = (strike_refused, strike_over, struck_left)

@@ -1,7 +1,8 @@
 -- RULES, 'The book', Deliver, and 'Refusals': order 1, 11, 12, 13, then copy or 14, the parameters', 15, and the refusals of a tape that is
 -- too short. Assumes nothing.
-use Rattle.std.specs.Prelude.{ℕ, ◌+◌, ◌-◌, Bool, cond, not, ◌&&◌, ◌||◌, List, [], ◌∷◌, ◌++◌, ◌≡◌, eqb, ltb, length, get_or, drop}
+use Rattle.std.specs.Prelude.{ℕ, ◌+◌, ◌-◌, Bool, cond, not, ◌&&◌, ◌||◌, List, [], ◌∷◌, ◌++◌, Result, Ok, Err, ◌≡◌, eqb, ltb, length, get_or, drop}
 use Rattle.std.proofs.lemmas.List.Edits.{sets}
+use Rattle.words.specs.declared.Refusal.{Refusal}
 use Rattle.words.specs.Outcome.{Outcome, drawn, refused}
 use Rattle.words.specs.Refusals.{Condition, ◌on◌, given}
 use Rattle.words.specs.Draw.{shorts, endings}
@@ -14,7 +15,7 @@ use Rattle.layout.specs.declared.Standing.{Standing}
 use Rattle.entry.specs.Entry.{booking, blank, entry_bytes}
 use Rattle.layout.specs.Standing.{standing}
 use Rattle.book.specs.declared.Delivered.{Delivered}
-use Rattle.book.specs.declared.Delivered.TheVariants.{Fresh, Copy, Refused}
+use Rattle.book.specs.declared.Delivered.TheVariants.{Fresh, Copy}
 use Rattle.opening.specs.Calls.{Call, call, booked, limits}
 
 -- what an accepted delivery is told: a count freshly drawn, or the count booked before, marked as a copy
@@ -91,12 +92,12 @@ deliver_to ws b es s r = delivering (given (deliver_refusals ws b es s r) (deliv
 unfoldable pub deliver : List ℕ → List ℕ → ℕ → Request → Call Booking
 deliver ws b s r = deliver_to ws b (booked ws b) s r
 
--- the enum in the rules' terms; nothing is lost (`one_delivered`)
-abbrev pub delivered : Delivered → Outcome Booking
-delivered (Fresh d) = drawn (fresh d.count) d.used
-delivered (Copy d) = drawn (copy d.count) d.used
-delivered (Refused x) = refused (number_of x)
+-- what a delivery answers, in the rules' terms; nothing is lost (`one_delivered`)
+abbrev pub delivered : Result Delivered Refusal → Outcome Booking
+delivered (Ok (Fresh d)) = drawn (fresh d.count) d.used
+delivered (Ok (Copy d)) = drawn (copy d.count) d.used
+delivered (Err x) = refused (number_of x)
 
 -- The contract of `deliver`: over the words ws and the book b at entry, the answer a and the book c at exit are the rule's.
-abbrev pub DeliverAllows : List ℕ → List ℕ → ℕ → Request → Delivered → List ℕ → Type 0
+abbrev pub DeliverAllows : List ℕ → List ℕ → ℕ → Request → Result Delivered Refusal → List ℕ → Type 0
 DeliverAllows ws b s r a c = call (delivered a) c ≡ deliver ws b s r

@@ -1,13 +1,12 @@
 -- RULES, 'The book', Strike, and 'Refusals': order 1, 11, 12, 16. Assumes nothing.
-use Rattle.std.specs.Prelude.{ℕ, ◌-◌, List, [], ◌∷◌, ◌++◌, ◌≡◌, ltb, length, take}
+use Rattle.std.specs.Prelude.{ℕ, ◌-◌, List, [], ◌∷◌, ◌++◌, Result, Ok, Err, ◌≡◌, ltb, length, take}
+use Rattle.words.specs.declared.Refusal.{Refusal}
 use Rattle.words.specs.Outcome.{Outcome, drawn, refused}
 use Rattle.words.specs.Refusals.{Condition, ◌on◌, given}
 use Rattle.words.specs.Paper.{number_of}
 use Rattle.bytes_le.specs.Zeros.{wiped}
 use Rattle.entry.specs.declared.Entry.{Entry}
 use Rattle.layout.specs.Book.{length_all}
-use Rattle.book.specs.declared.Struck.{Struck}
-use Rattle.book.specs.declared.Struck.TheVariants.{Left, Refused}
 use Rattle.opening.specs.Calls.{Call, call, booked, limits}
 
 -- 16: j above the number of entries
@@ -33,11 +32,11 @@ strike_in ws b es j = striking (given (strike_refusals ws b es j) (drawn (length
 unfoldable pub strike : List ℕ → List ℕ → ℕ → Call ℕ
 strike ws b j = strike_in ws b (booked ws b) j
 
--- the enum in the rules' terms; nothing is lost (`one_struck`)
-abbrev pub struck : Struck → Outcome ℕ
-struck (Left n) = drawn n 0
-struck (Refused x) = refused (number_of x)
+-- what a strike answers, in the rules' terms; nothing is lost (`one_struck`)
+abbrev pub struck : Result ℕ Refusal → Outcome ℕ
+struck (Ok n) = drawn n 0
+struck (Err x) = refused (number_of x)
 
 -- The contract of `strike`: over the words ws and the book b at entry, the answer a and the book c at exit are the rule's.
-abbrev pub StrikeAllows : List ℕ → List ℕ → ℕ → Struck → List ℕ → Type 0
+abbrev pub StrikeAllows : List ℕ → List ℕ → ℕ → Result ℕ Refusal → List ℕ → Type 0
 StrikeAllows ws b j a c = call (struck a) c ≡ strike ws b j

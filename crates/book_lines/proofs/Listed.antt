@@ -7,10 +7,8 @@ use mathlib.Core.Option
 use mathlib.Core.Option.{Option, some}
 use Prim.Native.Nat.{ℕ, suc, ◌+◌, ◌*◌, ◌≤◌, ◌<◌}
 use native.Mathlib.Nat.{add-zero}
-use native.Mathlib.Numerals.{add-one}
 use native.Mathlib.Omega.{arith}
-use lib.ListN.{length, get_or, drop, replicate, length-append, length-replicate, drop_of_length-le}
-use lib.Seq.{drop-cons}
+use lib.ListN.{length, get_or, replicate, length-append, length-replicate}
 use borrow.Author.Tests.{le-ltb}
 use Rattle.words.specs.Words.{most_words}
 use Rattle.words.specs.Outcome.{drawn}
@@ -19,24 +17,26 @@ use Rattle.words.proofs.Exactly.{none_given}
 use Rattle.bytes_le.proofs.Numbers.{Bytes}
 use Rattle.kinds.specs.Kinds.{kind_number}
 use Rattle.kinds.proofs.Requests.{kind_fits}
-use Rattle.layout.specs.declared.Walked.TheVariants.{Damaged, Sound}
+use Rattle.std.specs.Prelude.{None, Some, ⊤}
+use Rattle.std.proofs.Common.{w8}
+use Rattle.std.proofs.Common.{Fits as FitsWord}
 use Rattle.entry.specs.declared.Entry.{Entry}
 use Rattle.layout.specs.declared.Standing.{Standing}
-use Rattle.entry.specs.Entry.{length_at, entry_at, blank}
+use Rattle.entry.specs.Entry.{blank}
 use Rattle.layout.specs.Book.{decode, most_bytes, book_too_long, is_none}
-use Rattle.layout.specs.Sound.{offset}
+use Rattle.layout.specs.Entries.{entries_from, Lie}
 use Rattle.opening.specs.Calls.{is_damaged_for, booked_for}
 use Rattle.layout.specs.Inner.{walked}
-use Rattle.entry.specs.Inner.{HasEntry}
 use Rattle.entry.proofs.Entries.{Fits}
 use Rattle.layout.proofs.Decoding.{zeros_decode}
 use Rattle.layout.proofs.Positions.{lies_fits}
-use Rattle.opening.proofs.Opening.{open_decodes, open_book, open_room, open_whole, open_next, open_read}
+use Rattle.opening.proofs.Opening.{open_decodes, open_book, open_room, open_all}
 use Rattle.layout.proofs.Walking.{walked_damaged, walked_sound}
 use Rattle.writing.specs.Digits.{decimal}
 use Rattle.writing.specs.Writing.{Writes}
 use Rattle.writing.proofs.Writing.{written_next, length_decimal}
 use Rattle.lines.specs.Lines.{line, refused_line}
+use Rattle.lines.proofs.Lines.{word_next, last_words}
 use Rattle.book_lines.specs.Listing.{header, entry_line, entry_lines, end_line, listed, listing_refusals, entries_in, listing_of, listing}
 
 -- ---- an entry's line
@@ -60,45 +60,69 @@ line_room e f =
       length_decimal e.count 20 (omega arith) (omega (arith, f.count_fits)),
     )
 
+-- it is its numbers, each with the byte after it
+pub entry_written : {l m1 m2 m3 m4 o : List ℕ} {x y1 y2 y3 y4 z k : ℕ} (e : Entry) → k ≡ kind_number e.request → Writes l x (decimal e.serial ++ (32 ∷ [])) m1 y1
+    → Writes m1 y1 (decimal k ++ (32 ∷ [])) m2 y2 → Writes m2 y2 (decimal e.place ++ (32 ∷ [])) m3 y3 → Writes m3 y3 (decimal e.used ++ (32 ∷ [])) m4 y4
+    → Writes m4 y4 (decimal e.count ++ (10 ∷ [])) o z → Writes l x (entry_line e) o z
+unfolding entry_line
+entry_written e ek w1 w2 w3 w4 w5 =
+    word_next _ _ _ w1 (word_next _ _ _ (rw ek at w2) (word_next _ _ _ w3 (last_words _ _ (written_next _ _ _ _ _ _ _ _ w4 w5))))
+
+-- a number and the byte after it
+pub number_length : (n e : ℕ) → length (decimal n ++ (e ∷ [])) ≡ length (decimal n) + 1
+number_length n e = length-append (decimal n) (e ∷ [])
+
+-- how long a line is, for `grind`
+pub ruleset entry_words = (line_length, number_length)
+
 -- lines of at most 60 bytes each take at most 60 times their number
 lines_room : (es : List Entry) (d : Entry) → ((i : ℕ) → i < length es → length (entry_line (get_or es i d)) ≤ 60) → length (entry_lines es) ≤ 60 * length es
 unfolding entry_lines
 lines_room [] d h = omega arith
 lines_room (e ∷ es) d h = simp length-append (omega (arith, h 0 (omega arith), lines_room es d (λ i l. h (suc i) (omega arith))))
 
+-- each has a line of at most 60 bytes
+unfoldable pub Short : List Entry → Type 0
+Short [] = ⊤
+Short (e ∷ es) = (length (entry_line e) ≤ 60) × Short es
+
+short_lines : (es : List Entry) (d : Entry) → ((i : ℕ) → i < length es → length (entry_line (get_or es i d)) ≤ 60) → Short es
+unfolding Short
+short_lines [] d h = tt
+short_lines (e ∷ es) d h = (h 0 (omega arith), short_lines es d (λ i l. h (suc i) (omega arith)))
+
+-- ---- a turn over the entries that are left
+
+module _ (s : List Entry) (e : Entry) (es : List Entry) (is : s ≡ e ∷ es) where
+  pub short_first : Short s → (length (entry_line e) ≤ 60) × Short es
+  unfolding Short
+  short_first h = rw is at h
+
+  pub one_fewer : length s ≡ length es + 1
+  one_fewer = ap length is ∙ omega arith
+
+  -- with its line written, the lines of those after it are what is left
+  pub lines_turn : {o m d : List ℕ} {x y z : ℕ} → Writes o x (entry_line e) m y → Writes m y (entry_lines es) d z → Writes o x (entry_lines s) d z
+  unfolding entry_lines
+  lines_turn v w = rw is (written_next _ _ _ _ _ _ _ _ v w)
+
 -- ---- the entries of a sound book, where they lie
 
-module _ (b : List ℕ) (by : Bytes b) (h : NoneHolds (listing_refusals b)) where
+module _ (b : List ℕ) (fits : (i : ℕ) → FitsWord w8 (get_or b i 0)) (h : NoneHolds (listing_refusals b)) where
+  by : Bytes b
+  by i = (fits i).fits
+
   decodes : decode most_words b ≡ some (entries_in b)
   decodes = open_decodes most_words b h
 
-  -- the entry i, which begins at `from`
-  module _ (i : ℕ) (l : i < length (entries_in b)) (from : ℕ) (here : from ≡ offset b i) where
-    -- it lies whole there
-    pub entry_whole : HasEntry b from
-    entry_whole = rw here (open_whole most_words b by h i l)
+  -- they lie one after another, and have short lines
+  pub entries_all : (n : ℕ) → n ≡ length (entries_in b) → Lie n b 0 × (entries_from n b 0 ≡ entries_in b)
+  entries_all n e = open_all most_words b by h n e
 
-    -- and the one after it begins within the book
-    pub entry_next : (from + 2 ≤ length b) × (from + length_at b from ≤ length b)
-    entry_next = open_next most_words b by h i l from here
-
-    module _ (e : Entry) (read : entry_at b from ≡ some e) where
-      -- it is the one that was read there
-      is : e ≡ get_or (entries_in b) i blank
-      is = open_read most_words b by h i l from e here read
-
-      pub entry_room : length (entry_line e) ≤ 60
-      entry_room = line_room e (rw is (lies_fits most_words b (entries_in b) by decodes blank i l))
-
-      -- its line is the first of those that are left
-      lines_next : entry_lines (drop i (entries_in b)) ≡ entry_line e ++ entry_lines (drop (i + 1) (entries_in b))
-      unfolding entry_lines
-      lines_next = rw (drop-cons (entries_in b) i blank l, add-one i, is)
-
-      -- with its line written, the lines of those after it are what is left
-      pub lines_turn : {o m d : List ℕ} {x y z : ℕ} → Writes o x (entry_line e) m y → Writes m y (entry_lines (drop (i + 1) (entries_in b))) d z
-          → Writes o x (entry_lines (drop i (entries_in b))) d z
-      lines_turn v w = rw lines_next (written_next _ _ _ _ _ _ _ _ v w)
+  pub entries_short : (n : ℕ) (s : List Entry) → n ≡ length (entries_in b) → s ≡ entries_from n b 0 → (s ≡ entries_in b) × Short s
+  entries_short n s e es =
+      let is : s ≡ entries_in b = es ∙ (entries_all n e).1 in
+      (is, rw is (short_lines (entries_in b) blank (λ i l. line_room (get_or (entries_in b) i blank) (lies_fits most_words b (entries_in b) by decodes blank i l))))
 
   -- the room that all their lines take
   pub entries_room : length (entry_lines (entries_in b)) ≤ 60 * length (entries_in b)
@@ -109,9 +133,9 @@ module _ (b : List ℕ) (by : Bytes b) (h : NoneHolds (listing_refusals b)) wher
   entries_few = omega (arith, open_book most_words b h, (open_room most_words b by h).2)
 
 -- past the last, no line is left to write
-pub lines_done : (es : List Entry) (i : ℕ) (l : List ℕ) (x : ℕ) → length es ≤ i → x ≤ length l → Writes l x (entry_lines (drop i es)) l x
+pub lines_done : (s : List Entry) (l : List ℕ) (x : ℕ) → s ≡ [] → x ≤ length l → Writes l x (entry_lines s) l x
 unfolding entry_lines
-lines_done es i l x h r = rw (drop_of_length-le es h) (record { bytes = refl; place = sym (add-zero x); room = r })
+lines_done s l x e r = rw e (record { bytes = refl; place = sym (add-zero x); room = r })
 
 -- ---- what the listing comes to
 
@@ -134,16 +158,19 @@ module _ (b : List ℕ) where
 
   module _ (g : book_too_long b ≡ false) where
     -- 12: the walk found damage
-    pub listing_damaged : Damaged ≡ walked most_words b → refused_line 12 ≡ listing b
+    pub listing_damaged : None ≡ walked most_words b → refused_line 12 ≡ listing b
     unfolding listing listing_of is_damaged_for
     listing_damaged e = rw (g, walked_damaged most_words b e)
 
     -- the walk found a sound book, and the number of its entries
-    pub listing_sound : (st : Standing) → Sound st ≡ walked most_words b → NoneHolds (listing_refusals b) × (st.entries ≡ length (entries_in b))
+    pub listing_sound : (st : Standing) → Some st ≡ walked most_words b → NoneHolds (listing_refusals b) × (st.entries ≡ length (entries_in b))
     unfolding is_damaged_for booked_for
     listing_sound st e =
         let t = walked_sound most_words b st e in
         ((refl, (g, (ap is_none t.decoded, tt))), rw t.decoded (ap (λ (x : Standing). x.entries) t.stands))
+
+-- how the listing comes out, for `grind`
+pub ruleset listings = (listing_long, listing_damaged, listing_sound, listing_listed, entries_few)
 
 -- ---- an empty book
 

@@ -1,4 +1,5 @@
-// The listing of a book, as bytes: a header, a line for each entry, and their number; or the one line of a refusal.
+// The listing of a book, as bytes: a header, a line for each entry, and their number; or the one line of a refusal. (Each function answers the place
+// after what it wrote, and no struct holds bytes and place: their contracts, by `Writes`, speak of each of them.)
 #![tactic(auto)]
 
 ghost use Rattle.std.specs.Prelude.{◌≡◌, ◌+◌, ◌*◌, ◌≤◌, length};
@@ -6,9 +7,9 @@ ghost use Rattle.words.specs.Refusals.{NoneHolds};
 ghost use Rattle.writing.specs.Writing.{Writes};
 ghost use Rattle.book_lines.specs.Listing.{ListingAllows, entries_in, entry_line, entry_lines, listed, listing_refusals};
 
-use entry::{Entry, entry_at};
+use entry::Entry;
 use kinds::kind_of;
-use layout::{Walked, next_at, walk};
+use layout::{Entries, walk};
 use lines::{put_number, put_numbered, put_refused};
 use words::{MOST_WORDS, Refusal};
 use writing::put_text;
@@ -17,14 +18,14 @@ use writing::put_text;
 pub const LISTING_BYTES: usize = 196_608;
 
 // Writes the line of an entry.
+#[tactic(auto, using(crate::proofs::Listed::entry_words))]
 fn put_entry_line(entry: Entry, out: &mut [u8], at: usize) -> usize
     requires { at + length (entry_line entry) ≤ length out.old }
     ensures { Writes out.old at (entry_line entry) out.new result }
 {
-    let request = entry.request;
-    let kind = kind_of(request);
+    let kind = u64::from(kind_of(entry.request));
     let mut next = put_number(out, at, entry.serial, b' ');
-    next = put_number(out, next, kind as u64, b' ');
+    next = put_number(out, next, kind, b' ');
     next = put_number(out, next, entry.place as u64, b' ');
     next = put_number(out, next, entry.used as u64, b' ');
     put_number(out, next, entry.count, b'\n')
@@ -35,19 +36,15 @@ fn put_entries(book: &[u8], entries: u64, out: &mut [u8], at: usize) -> usize
     requires { NoneHolds (listing_refusals book.now) × (entries ≡ length (entries_in book.now)) × (at + 60 * entries ≤ length out.old) }
     ensures { Writes out.old at (entry_lines (entries_in book.now)) out.new result }
 {
-    let mut from: usize = 0;
     let mut to = at;
-    let mut i: u64 = 0;
-    while i < entries {
-        let entry = entry_at(book, from);
+    for entry in Entries::of(book, entries) {
         to = put_entry_line(entry, out, to);
-        from = next_at(book, from);
-        i += 1;
     }
     to
 }
 
 // Writes the listing of a sound book.
+#[tactic(auto, using(crate::proofs::Listed::entries_room))]
 fn put_listed(book: &[u8], entries: u64, out: &mut [u8]) -> usize
     requires { NoneHolds (listing_refusals book.now) × (entries ≡ length (entries_in book.now)) × (60 * entries + 52 ≤ length out.old) }
     ensures { Writes out.old 0 (listed (entries_in book.now)) out.new result }
@@ -59,14 +56,15 @@ fn put_listed(book: &[u8], entries: u64, out: &mut [u8]) -> usize
 
 // Writes all that the listing program writes of these bytes, and answers how many bytes that is. A book is tested whole before
 // anything is written.
+#[tactic(auto, using(crate::proofs::Listed::listings))]
 pub fn listing(book: &[u8], out: &mut [u8; LISTING_BYTES]) -> usize
     ensures { ListingAllows book.now out.old result out.new }
 {
     if layout::is_too_long(book) {
         return put_refused(out, Refusal::BookTooLong);
     }
-    match walk(book, MOST_WORDS) {
-        Walked::Damaged => put_refused(out, Refusal::BookDamaged),
-        Walked::Sound(standing) => put_listed(book, standing.entries, out),
-    }
+    let Some(standing) = walk(book, MOST_WORDS) else {
+        return put_refused(out, Refusal::BookDamaged);
+    };
+    put_listed(book, standing.entries, out)
 }

@@ -1,12 +1,14 @@
 -- Laws of little-endian numbers, one for every width: what was written is read, and what was read is written. Assumes nothing.
-use mathlib.Core.Path.{◌≡◌, refl, ap, ap₂, ◌∙◌}
-use mathlib.Core.List.{List, [], ◌∷◌, ◌++◌}
+use mathlib.Core.Path.{◌≡◌, refl, sym, ap, ap₂, ◌∙◌}
+use mathlib.Core.List.{List, [], ◌∷◌, ◌++◌, append-nil}
 use Prim.Native.Nat.{ℕ, zero, suc, ◌+◌, ◌*◌, ◌-◌, ◌/◌, ◌%◌, ◌^◌, ◌<◌, ◌≤◌}
 use native.Mathlib.Nat.{pow-succ', mod-add-div, le_of_suc-le-suc, not-suc-le-zero, add-zero, lt_of_lt_of_le, pow-le-pow_right}
 use native.Mathlib.Numerals.{add-one}
 use native.Mathlib.Omega.{arith}
 use lib.ListN.{get_or, drop, take, length, replicate, set}
-use lib.Seq.{get_or-drop, drop-drop, sets}
+use lib.Seq.{get_or-drop, get_or-take, get_or-append_seam, take-append_seam, drop-drop, sets, take-suc-set, take-length, append_snoc}
+use Rattle.std.proofs.lemmas.List.{length_push}
+use Rattle.std.proofs.lemmas.List.Edits.{length-between}
 use Rattle.bytes_le.specs.LittleEndian.{bytes_of, spelled, words_from}
 
 -- each value is a byte's
@@ -76,19 +78,49 @@ module _ (l : List ℕ) (k at : ℕ) where
       lt_of_lt_of_le (spelled_lt (k - i) (drop (at + i) l) (bytes_drop l (at + i) by))
       (pow-le-pow_right {n = 256} (omega arith) {i = k - i} {j = 7} (omega arith))
 
+-- ---- the bytes that are still to come, from the highest down
+
+take_less : (n : ℕ) (l : List ℕ) → take n (take (suc n) l) ≡ take n l
+take_less zero l = refl
+take_less (suc n) [] = refl
+take_less (suc n) (x ∷ l) = ap (λ (m : List ℕ). x ∷ m) (take_less n l)
+
+-- at first, all of them
+pub all_to_come : (r l : List ℕ) (at k : ℕ) → at + k ≤ length l → r ≡ take (at + k - at) (drop at l)
+    → (length r ≡ k) × (r ≡ take (length r) (drop at l)) × (0 ≡ spelled (k - length r) (drop (at + length r) l))
+all_to_come r l at k h e =
+    let many : length r ≡ at + k - at = ap length e ∙ length-between l at (at + k) h in
+    let n : length r ≡ k = omega arith in
+    (n, e ∙ ap (λ (m : ℕ). take m (drop at l)) (sym many), rw n (read_none l k at (drop (at + k) l)))
+
+-- and once the last of them is taken
+pub last_taken : (r l s : List ℕ) (at b : ℕ) → r ≡ take (length r) (drop at l) → r ≡ s ++ b ∷ []
+    → (length r ≡ length s + 1) × (b ≡ get_or l (at + length s) 0) × (s ≡ take (length s) (drop at l))
+last_taken r l s at b e f =
+    let n : length r ≡ suc (length s) = ap length f ∙ length_push s b ∙ add-one (length s) in
+    let same : s ++ b ∷ [] ≡ take (suc (length s)) (drop at l) = sym f ∙ e ∙ ap (λ (m : ℕ). take m (drop at l)) n in
+    let last : b ≡ get_or (drop at l) (length s) 0 =
+    sym (get_or-append_seam s b [] 0) ∙ ap (λ (m : List ℕ). get_or m (length s) 0) same
+    ∙ get_or-take (suc (length s)) (drop at l) (length s) 0 (omega arith) in
+    let left : s ≡ take (length s) (drop at l) =
+    sym (take-append_seam s (b ∷ [])) ∙ ap (take (length s)) same ∙ take_less (length s) (drop at l) in
+    (n ∙ sym (add-one (length s)), last ∙ get_or-drop at l (length s) 0, left)
+
 -- ---- a turn of the loop that writes
 
-pub write_turn : (l : List ℕ) (k at i v : ℕ) → i < k
-    → sets (set l (at + i) (v % 256)) (at + (i + 1)) (bytes_of (k - (i + 1)) (v / 256)) ≡ sets l (at + i) (bytes_of (k - i) v)
+pub write_turn : (l : List ℕ) (k i v : ℕ) → i < k → length l ≡ k
+    → take (i + 1) (set l i (v % 256)) ++ bytes_of (k - (i + 1)) (v / 256) ≡ take i l ++ bytes_of (k - i) v
 unfolding bytes_of
-write_turn l k at i v h =
+write_turn l k i v h e =
     let n : k - i ≡ suc (k - (i + 1)) = omega arith in
-    let a : at + (i + 1) ≡ suc (at + i) = omega arith in
-    rw (n, a)
+    rw (n, add-one i, take-suc-set l i (v % 256) (omega arith)) (append_snoc (take i l) (v % 256) (bytes_of (k - suc i) (v / 256)))
 
-pub write_done : (l d : List ℕ) (k at i v : ℕ) → i ≤ k → k ≤ i → sets l (at + i) (bytes_of (k - i) v) ≡ d → l ≡ d
+pub write_done : (l d : List ℕ) (k i v : ℕ) → length l ≡ k → i ≡ k → take i l ++ bytes_of (k - i) v ≡ d → l ≡ d
 unfolding bytes_of
-write_done l d k at i v h h' e = let n : k - i ≡ 0 = omega arith in rw n at e
+write_done l d k i v e h w =
+    let n : k - i ≡ 0 = omega arith in
+    let whole : i ≡ length l = omega arith in
+    rw (n, append-nil, whole, take-length l) at w
 
 -- ---- words one after another
 

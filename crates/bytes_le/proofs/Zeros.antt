@@ -1,14 +1,14 @@
 -- Laws of zero bytes. Assumes nothing.
 use mathlib.Core.Path.{◌≡◌, refl, sym, ap, ◌∙◌}
-use mathlib.Core.Bool.{true, false, ◌&&◌}
-use mathlib.Core.List.{List, [], ◌∷◌, ◌++◌, append-nil}
-use Prim.Native.Nat.{ℕ, zero, suc, ◌+◌, ◌-◌, ◌<◌, ◌≤◌}
-use native.Mathlib.Numerals.{add-one}
+use mathlib.Core.Bool.{Bool, true, false, ◌&&◌}
+use mathlib.Core.List.{List, [], ◌∷◌, ◌++◌, append-nil, append_assoc}
+use Prim.Native.Nat.{ℕ, zero, suc, ◌+◌, ◌-◌, ◌≤◌}
 use native.Mathlib.Omega.{arith}
+use borrow.Rule.Slice.PartMut.{put_mid}
 use lib.Dec.{eqb, eqb-suc-zero}
-use lib.ListN.{get_or, drop, take, length, replicate, set, drop_of_length-le, take-append-drop}
-use lib.Seq.{drop-cons, take-suc-set, append_snoc, drop-set-lt}
-use borrow.Author.Tests.{ne_eqb}
+use lib.ListN.{drop, take, length, replicate, take-append-drop}
+use lib.Seq.{drop-drop}
+use Rattle.std.specs.List.{list_all}
 use Rattle.bytes_le.specs.Zeros.{all_zero, wiped}
 
 pub zeros_are : (n : ℕ) → all_zero (replicate n 0) ≡ true
@@ -25,31 +25,20 @@ are_zeros (suc x ∷ xs) e =
     let z : ◌≡◌ {A = ℕ} 0 1 = cc in
     absurd (omega arith)
 
--- ---- a turn of the loop that tests
+-- the test as the code makes it
+pub each_zero : (l : List ℕ) → list_all (λ x. eqb x 0) l ≡ all_zero l
+unfolding all_zero
+each_zero [] = refl
+each_zero (x ∷ xs) = ap (λ (b : Bool). eqb x 0 && b) (each_zero xs)
 
-module _ (l : List ℕ) (i : ℕ) where
-  first_tested : i < length l → all_zero (drop i l) ≡ eqb (get_or l i 0) 0 && all_zero (drop (suc i) l)
-  unfolding all_zero
-  first_tested h = ap all_zero (drop-cons l i 0 h)
-
-  pub zero_yes : i < length l → get_or l i 0 ≡ 0 → all_zero (drop i l) ≡ all_zero (drop (i + 1) l)
-  zero_yes h e = rw (first_tested h, e, add-one)
-
-  pub zero_no : i < length l → (get_or l i 0 ≡ 0 → ⊥) → all_zero (drop i l) ≡ false
-  zero_no h e = rw (first_tested h, ne_eqb (get_or l i 0) 0 e)
-
-  pub zero_all : length l ≤ i → all_zero (drop i l) ≡ true
-  unfolding all_zero
-  zero_all h = rw (drop_of_length-le l h)
-
--- ---- a turn of the loop that wipes
-
-pub wipe_turn : (l : List ℕ) (i j : ℕ) → i < j → j ≤ length l → wiped (i + 1) j (set l i 0) ≡ wiped i j l
+-- a part that is put back as zeros
+pub part_wiped : (l : List ℕ) (i j : ℕ) → i ≤ j → put_mid i (j - i) l (replicate (j - i) 0) ≡ wiped i j l
 unfolding wiped
-wipe_turn l i j h r =
-    let n : j - i ≡ suc (j - (i + 1)) = omega arith in
-    rw (add-one i, take-suc-set l i 0 (omega arith), drop-set-lt j l i 0 h, n, ← add-one i, append_snoc (take i l) 0 (replicate (j - (i + 1)) 0))
+part_wiped l i j h =
+    let n : i + (j - i) ≡ j = omega arith in
+    rw (drop-drop (j - i) i l, n) (sym (append_assoc (take i l) (replicate (j - i) 0) (drop j l)))
 
+-- nothing wiped
 pub wipe_done : (l d : List ℕ) (i j : ℕ) → i ≤ j → j ≤ i → wiped i j l ≡ d → l ≡ d
 unfolding wiped
 wipe_done l d i j h h' e =

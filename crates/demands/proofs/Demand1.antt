@@ -2,10 +2,11 @@
 use mathlib.Core.Path.{◌≡◌, ap, ◌∙◌}
 use mathlib.Core.List.{List}
 use Prim.Native.Nat.{ℕ}
+use Rattle.std.proofs.Common.{Result}
+use Rattle.words.specs.declared.Refusal.{Refusal}
 use Rattle.words.specs.Outcome.{Outcome, count_of, used_of}
 use Rattle.kinds.specs.declared.Request.{Request}
 use Rattle.book.specs.declared.Delivered.{Delivered}
-use Rattle.book.specs.declared.Struck.{Struck}
 use Rattle.opening.specs.Calls.{Call, booked}
 use Rattle.layout.specs.Standing.{standing}
 use Rattle.book.specs.Deliver.{Booking, delivered, deliver_to, deliver, after_delivery, DeliverAllows}
@@ -13,12 +14,12 @@ use Rattle.book.specs.Strike.{struck, strike_in, strike, after_strike, StrikeAll
 use Rattle.demands.specs.Demand1.{count_told, Demand1}
 
 -- by its contract a call leaves in the book what its answer says
-pub delivery_writes : (ws b : List ℕ) (s : ℕ) (r : Request) (a : Delivered) (c : List ℕ) → DeliverAllows ws b s r a c
+pub delivery_writes : (ws b : List ℕ) (s : ℕ) (r : Request) (a : Result Delivered Refusal) (c : List ℕ) → DeliverAllows ws b s r a c
     → c ≡ after_delivery (delivered a) b (standing (booked ws b)) r
 unfolding deliver deliver_to
 delivery_writes ws b s r a c e = rw (ap (λ (x : Call Booking). x.outcome) e) (ap (λ (x : Call Booking). x.book) e)
 
-pub strike_writes : (ws b : List ℕ) (j : ℕ) (a : Struck) (c : List ℕ) → StrikeAllows ws b j a c → c ≡ after_strike (struck a) b (booked ws b) j
+pub strike_writes : (ws b : List ℕ) (j : ℕ) (a : Result ℕ Refusal) (c : List ℕ) → StrikeAllows ws b j a c → c ≡ after_strike (struck a) b (booked ws b) j
 unfolding strike strike_in
 strike_writes ws b j a c e = rw (ap (λ (x : Call ℕ). x.outcome) e) (ap (λ (x : Call ℕ). x.book) e)
 

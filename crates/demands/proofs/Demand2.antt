@@ -8,6 +8,8 @@ use Prim.Native.Nat.{ℕ, ◌-◌}
 use lib.Dec.{eqb}
 use lib.ListN.{length, drop}
 use borrow.Author.Tests.{eq-eqb, eqb-true}
+use Rattle.std.proofs.Common.{Result}
+use Rattle.words.specs.declared.Refusal.{Refusal}
 use Rattle.words.specs.Outcome.{Outcome, drawn, refused}
 use Rattle.words.specs.Refusals.{Condition, ◌on◌, given, First, NoneHolds}
 use Rattle.words.specs.Draw.{ends_by}
@@ -15,13 +17,11 @@ use Rattle.words.proofs.Exactly.{exactly, along, drawn_exactly, none_given}
 use Rattle.words.proofs.Reading.{refused_not_drawn}
 use Rattle.kinds.specs.declared.Request.{Request}
 use Rattle.draws.proofs.Demand2 as draws
-use Rattle.hypergeometric.specs.declared.SetUp.{SetUp}
-use Rattle.hypergeometric.specs.SetUp.{set_up, tray_refusals, settled, SetUpAllows}
+use Rattle.hypergeometric.specs.SetUp.{SetUp, set_up, tray_refusals, settled, SetUpAllows}
 use Rattle.hypergeometric.proofs.Settling.{one_set_up}
 use Rattle.entry.specs.declared.Entry.{Entry}
 use Rattle.layout.proofs.Decoding.{by-test}
 use Rattle.book.specs.declared.Delivered.{Delivered}
-use Rattle.book.specs.declared.Struck.{Struck}
 use Rattle.redraws.specs.declared.Redrawn.{Redrawn}
 use Rattle.opening.specs.Calls.{Call, booked, limits}
 use Rattle.layout.specs.Standing.{standing}
@@ -45,7 +45,7 @@ copy_refusals ws b es s r o e =
     let none : NoneHolds (when_next (is_next (length es) s) fs) = subst (λ (x : Bool). NoneHolds (when_next x fs)) (sym e) (copy_unrefused fs) in
     rw (none_given (when_next (is_next (length es) s) fs) o none)
 
-delivery_demanded : (ws b : List ℕ) (s : ℕ) (r : Request) (a : Delivered) (c : List ℕ) → DeliverAllows ws b s r a c → DeliverDemanded ws b s r a c
+delivery_demanded : (ws b : List ℕ) (s : ℕ) (r : Request) (a : Result Delivered Refusal) (c : List ℕ) → DeliverAllows ws b s r a c → DeliverDemanded ws b s r a c
 unfolding deliver deliver_to
 delivery_demanded ws b s r a c e =
     let o : delivered a ≡ given (deliver_conditions ws b s r) (delivery ws (booked ws b) s r) = ap (λ (x : Call Booking). x.outcome) e in
@@ -79,7 +79,7 @@ set_up_demanded N K n a e =
       one = λ a' e'. one_set_up a' a (e' ∙ sym e);
     }
 
-strike_demanded : (ws b : List ℕ) (j : ℕ) (a : Struck) (c : List ℕ) → StrikeAllows ws b j a c → StrikeDemanded ws b j a c
+strike_demanded : (ws b : List ℕ) (j : ℕ) (a : Result ℕ Refusal) (c : List ℕ) → StrikeAllows ws b j a c → StrikeDemanded ws b j a c
 unfolding strike strike_in
 strike_demanded ws b j a c e =
     let o : struck a ≡ given (strike_conditions ws b j) (drawn (length (booked ws b) - j) 0) = ap (λ (x : Call ℕ). x.outcome) e in
@@ -102,7 +102,7 @@ named_exactly (refused n) x s = (
   λ h. let t : n ≡ 17 = cc in rw (eq-eqb n 17 t) h.1,
 )
 
-redraw_demanded : (ws b : List ℕ) (a : Redrawn) → RedrawAllows ws b a → RedrawDemanded ws b a
+redraw_demanded : (ws b : List ℕ) (a : Result Redrawn Refusal) → RedrawAllows ws b a → RedrawDemanded ws b a
 unfolding redraw redraw_of
 redraw_demanded ws b a e =
     let o : (redrawn a).outcome ≡ given (redraw_conditions ws b) (drawn (length (booked ws b)) 0) = ap (λ (x : Redrawing). x.outcome) e in

@@ -12,14 +12,12 @@ use lib.ListN.{length, drop, replicate}
 use Rattle.kinds.specs.declared.Request.{Request}
 use Rattle.kinds.specs.Kinds.{numbered, kind_of, parameters_of, RequestFits}
 use Rattle.layout.proofs.Decoding.{by-test}
-use Rattle.numerals.specs.declared.Number.{Number}
-use Rattle.numerals.specs.declared.Number.TheVariants as read
-use Rattle.numerals.specs.declared.Number.TheVariants.{Is}
+use Rattle.std.proofs.Common.{Option, Some, None}
 use Rattle.numerals.specs.Digits.{number}
 use Rattle.numerals.specs.Decimal.{is_decimal, whole_of, places_of, is_short, nearest_bits, decimal_bits, is_hexadecimal, float_bits}
 use Rattle.numerals.proofs.Reading.{number_within}
 use Rattle.request_line.specs.declared.Line.{Line}
-use Rattle.request_line.specs.declared.Line.TheVariants.{Deliver, Strike, StrikeFrom, Redraw, Passed, Unread}
+use Rattle.request_line.specs.declared.Line.TheVariants.{Deliver, Strike, StrikeFrom, Redraw, Passed}
 use Rattle.parted.specs.Parts.{word}
 use Rattle.request_line.specs.Words.{words, same_text}
 use Rattle.request_line.specs.Ends.{text_of, is_line}
@@ -47,22 +45,22 @@ append_fits (striking j ∷ os) ps h k = append_fits os ps h k
 
 -- one line's book is the one that its call leaves, if it asks for one, where the book holds as many entries as the history has
 module _ (ws : List ℕ) (st : State) (k : ℕ) (same : length (booked ws st.book) ≡ length st.history) where
-  answered_run : (x : Line) → (answered ws st.book k x).book ≡ (run ws st (operation_of (length st.history) x)).book
+  answered_run : (x : Option Line) → (answered ws st.book k x).book ≡ (run ws st (operation_of (length st.history) x)).book
   unfolding strike_from
-  answered_run (Deliver s r) = refl
-  answered_run (Strike j) = refl
-  answered_run (StrikeFrom j m) =
+  answered_run (Some (Deliver s r)) = refl
+  answered_run (Some (Strike j)) = refl
+  answered_run (Some (StrikeFrom j m)) =
       rw same
       (by-test (λ (os : List Operation). cond (eqb (length st.history) m) (strike ws st.book j).book st.book ≡ (run ws st os).book)
       (eqb (length st.history) m) (λ t. rw t) (λ t. rw t))
-  answered_run Redraw = refl
-  answered_run Passed = refl
-  answered_run Unread = refl
+  answered_run (Some Redraw) = refl
+  answered_run (Some Passed) = refl
+  answered_run None = refl
 
 -- ---- a number that is read is below 2^64
 
 -- a whole number that may be at most 2^64 - 1
-number_below : (b v : ℕ) (l : List ℕ) → number b (2 ^ 64 - 1) l ≡ Is v → v < 2 ^ 64
+number_below : (b v : ℕ) (l : List ℕ) → number b (2 ^ 64 - 1) l ≡ Some v → v < 2 ^ 64
 number_below b v l e = omega (arith, number_within b (2 ^ 64 - 1) v l e)
 
 -- the bits of a binary64 are 64
@@ -71,50 +69,50 @@ unfolding nearest_bits
 nearest_below a b = to_bits-lt binary64 (round binary64 false a b) (round-fits binary64 false a b)
 
 -- the bits of a float, by its hexadecimal digits or by a decimal
-float_below : (v : ℕ) (l : List ℕ) → float_bits l ≡ Is v → v < 2 ^ 64
+float_below : (v : ℕ) (l : List ℕ) → float_bits l ≡ Some v → v < 2 ^ 64
 unfolding float_bits decimal_bits
 float_below v l =
-    let P : Number → Type 0 = λ x. x ≡ Is v → v < 2 ^ 64 in
+    let P : Option ℕ → Type 0 = λ x. x ≡ Some v → v < 2 ^ 64 in
     by-test P (is_hexadecimal l) (λ _ e. number_below 16 v (drop 2 l) e)
     (λ _. by-test P (is_decimal l && is_short l)
     (λ _ e. let q : nearest_bits (whole_of l) (10 ^ places_of l) ≡ v = cc in rw (← q) (nearest_below (whole_of l) (10 ^ places_of l)))
     (λ _ e. let z : ◌≡◌ {A = ℕ} 0 1 = cc in absurd (omega arith)))
 
 -- a number's two cases, with what was read
-by_number : {X : Type 0} (P : X → Type 0) (n : Number) {f : ℕ → X} {x : X} → ((v : ℕ) → n ≡ Is v → P (f v)) → P x → P (on_number n f x)
-by_number P (Is v) g h = g v refl
-by_number P read.Unread g h = h
+by_number : {X : Type 0} (P : X → Type 0) (n : Option ℕ) {f : ℕ → X} {x : X} → ((v : ℕ) → n ≡ Some v → P (f v)) → P x → P (on_number n f x)
+by_number P (Some v) g h = g v refl
+by_number P None g h = h
 
 -- ---- so a request that is read fits
 
 -- a line's request, if it has one, has parameters of 64 bits
-abbrev LineFits : Line → Type 0
-LineFits (Deliver s r) = RequestFits r
-LineFits (Strike j) = Unit
-LineFits (StrikeFrom j m) = Unit
-LineFits Redraw = Unit
-LineFits Passed = Unit
-LineFits Unread = Unit
+abbrev LineFits : Option Line → Type 0
+LineFits (Some (Deliver s r)) = RequestFits r
+LineFits (Some (Strike j)) = Unit
+LineFits (Some (StrikeFrom j m)) = Unit
+LineFits (Some Redraw) = Unit
+LineFits (Some Passed) = Unit
+LineFits None = Unit
 
 -- and so has its call
-operation_fits : (n : ℕ) (x : Line) → LineFits x → OperationsFit (operation_of n x)
-operation_fits n (Deliver s r) f = (f, tt)
-operation_fits n (Strike j) f = tt
-operation_fits n (StrikeFrom j m) f = by-test OperationsFit (eqb n m) (λ _. tt) (λ _. tt)
-operation_fits n Redraw f = tt
-operation_fits n Passed f = tt
-operation_fits n Unread f = tt
+operation_fits : (n : ℕ) (x : Option Line) → LineFits x → OperationsFit (operation_of n x)
+operation_fits n (Some (Deliver s r)) f = (f, tt)
+operation_fits n (Some (Strike j)) f = tt
+operation_fits n (Some (StrikeFrom j m)) f = by-test OperationsFit (eqb n m) (λ _. tt) (λ _. tt)
+operation_fits n (Some Redraw) f = tt
+operation_fits n (Some Passed) f = tt
+operation_fits n None f = tt
 
 -- the same of what f makes a line of
-abbrev FitsBy : {X : Type 0} → (X → Line) → X → Type 0
+abbrev FitsBy : {X : Type 0} → (X → Option Line) → X → Type 0
 FitsBy f x = LineFits (f x)
 
 module _ (l : List ℕ) where
   -- the request of a delivery, of each kind
-  request_fits : (s : ℕ) → LineFits (on_asked (request_asked l) (λ (r : Request). Deliver s r) Unread)
+  request_fits : (s : ℕ) → LineFits (on_asked (request_asked l) (λ (r : Request). Some (Deliver s r)) None)
   unfolding request_asked tray_asked poisson_asked geometric_asked numbered kind_of parameters_of
   request_fits s =
-      let P = FitsBy (λ a. on_asked a (λ (r : Request). Deliver s r) Unread) in
+      let P = FitsBy (λ a. on_asked a (λ (r : Request). Some (Deliver s r)) None) in
       by-test P (is_form 6 2 hypergeometric_text l)
       (λ _. by_number P (number_at 3 l)
       (λ N a. by_number P (number_at 4 l)

@@ -1,11 +1,12 @@
 -- The readings `delivered`, `struck` and `redrawn` lose nothing: equal readings, equal answers. So an equation that a contract of `book`
 -- states leaves one answer. Assumes nothing.
 use mathlib.Core.Path.{◌≡◌, ap}
+use Rattle.std.proofs.Common.{ℕ, Result, Ok, Err}
+use Rattle.words.specs.declared.Refusal.{Refusal}
 use Rattle.words.proofs.OneAnswer.{one_refusal, one_draw}
+use Rattle.words.specs.declared.Draw.{Draw}
 use Rattle.book.specs.declared.Delivered.{Delivered}
-use Rattle.book.specs.declared.Delivered.TheVariants.{Fresh, Copy, Refused}
-use Rattle.book.specs.declared.Struck.{Struck}
-use Rattle.book.specs.declared.Struck.TheVariants as of-struck
+use Rattle.book.specs.declared.Delivered.TheVariants.{Fresh, Copy}
 use Rattle.redraws.specs.declared.Redrawn.{Redrawn}
 use Rattle.redraws.specs.declared.Redrawn.TheVariants as of-redrawn
 use Rattle.book.specs.Deliver.{delivered}
@@ -13,35 +14,35 @@ use Rattle.book.specs.Strike.{struck}
 use Rattle.redraws.specs.Redraw.{Redrawing, redrawn}
 
 -- of deliveries
-pub one_delivered : (a b : Delivered) → delivered a ≡ delivered b → a ≡ b
-one_delivered (Fresh c) (Fresh d) e = ap Fresh (one_draw c d (cc) (cc))
-one_delivered (Fresh c) (Copy d) e = cc
-one_delivered (Fresh c) (Refused y) e = cc
-one_delivered (Copy c) (Fresh d) e = cc
-one_delivered (Copy c) (Copy d) e = ap Copy (one_draw c d (cc) (cc))
-one_delivered (Copy c) (Refused y) e = cc
-one_delivered (Refused x) (Fresh d) e = cc
-one_delivered (Refused x) (Copy d) e = cc
-one_delivered (Refused x) (Refused y) e = ap Refused (one_refusal x y (cc))
+pub one_delivered : (a b : Result Delivered Refusal) → delivered a ≡ delivered b → a ≡ b
+one_delivered (Ok (Fresh c)) (Ok (Fresh d)) e = ap (λ (x : Draw). Ok (Fresh x)) (one_draw c d (cc) (cc))
+one_delivered (Ok (Fresh c)) (Ok (Copy d)) e = cc
+one_delivered (Ok (Fresh c)) (Err y) e = cc
+one_delivered (Ok (Copy c)) (Ok (Fresh d)) e = cc
+one_delivered (Ok (Copy c)) (Ok (Copy d)) e = ap (λ (x : Draw). Ok (Copy x)) (one_draw c d (cc) (cc))
+one_delivered (Ok (Copy c)) (Err y) e = cc
+one_delivered (Err x) (Ok (Fresh d)) e = cc
+one_delivered (Err x) (Ok (Copy d)) e = cc
+one_delivered (Err x) (Err y) e = ap Err (one_refusal x y (cc))
 
 -- of strikes
-pub one_struck : (a b : Struck) → struck a ≡ struck b → a ≡ b
-one_struck (of-struck.Left m) (of-struck.Left n) e = cc
-one_struck (of-struck.Left m) (of-struck.Refused y) e = cc
-one_struck (of-struck.Refused x) (of-struck.Left n) e = cc
-one_struck (of-struck.Refused x) (of-struck.Refused y) e = ap of-struck.Refused (one_refusal x y (cc))
+pub one_struck : (a b : Result ℕ Refusal) → struck a ≡ struck b → a ≡ b
+one_struck (Ok m) (Ok n) e = cc
+one_struck (Ok m) (Err y) e = cc
+one_struck (Err x) (Ok n) e = cc
+one_struck (Err x) (Err y) e = ap Err (one_refusal x y (cc))
 
 -- of redraws: a 17 that names its serial is none of the other refusals, which name none
-from_both : (a b : Redrawn) → (redrawn a).outcome ≡ (redrawn b).outcome → (redrawn a).named ≡ (redrawn b).named → a ≡ b
-from_both (of-redrawn.Agrees m) (of-redrawn.Agrees n) e f = cc
-from_both (of-redrawn.Agrees m) (of-redrawn.Differs t) e f = cc
-from_both (of-redrawn.Agrees m) (of-redrawn.Refused y) e f = cc
-from_both (of-redrawn.Differs s) (of-redrawn.Agrees n) e f = cc
-from_both (of-redrawn.Differs s) (of-redrawn.Differs t) e f = cc
-from_both (of-redrawn.Differs s) (of-redrawn.Refused y) e f = cc
-from_both (of-redrawn.Refused x) (of-redrawn.Agrees n) e f = cc
-from_both (of-redrawn.Refused x) (of-redrawn.Differs t) e f = cc
-from_both (of-redrawn.Refused x) (of-redrawn.Refused y) e f = ap of-redrawn.Refused (one_refusal x y (cc))
+from_both : (a b : Result Redrawn Refusal) → (redrawn a).outcome ≡ (redrawn b).outcome → (redrawn a).named ≡ (redrawn b).named → a ≡ b
+from_both (Ok (of-redrawn.Agrees m)) (Ok (of-redrawn.Agrees n)) e f = cc
+from_both (Ok (of-redrawn.Agrees m)) (Ok (of-redrawn.Differs t)) e f = cc
+from_both (Ok (of-redrawn.Agrees m)) (Err y) e f = cc
+from_both (Ok (of-redrawn.Differs s)) (Ok (of-redrawn.Agrees n)) e f = cc
+from_both (Ok (of-redrawn.Differs s)) (Ok (of-redrawn.Differs t)) e f = cc
+from_both (Ok (of-redrawn.Differs s)) (Err y) e f = cc
+from_both (Err x) (Ok (of-redrawn.Agrees n)) e f = cc
+from_both (Err x) (Ok (of-redrawn.Differs t)) e f = cc
+from_both (Err x) (Err y) e f = ap Err (one_refusal x y (cc))
 
-pub one_redrawn : (a b : Redrawn) → redrawn a ≡ redrawn b → a ≡ b
+pub one_redrawn : (a b : Result Redrawn Refusal) → redrawn a ≡ redrawn b → a ≡ b
 one_redrawn a b e = from_both a b (ap (λ (x : Redrawing). x.outcome) e) (ap (λ (x : Redrawing). x.named) e)

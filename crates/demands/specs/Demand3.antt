@@ -1,13 +1,13 @@
 -- RULES, 'Demands', 3: from an all-zero book and one unchanging tape, after any sequence of deliveries and strikes, copies and refusals included, the
 -- book is to the byte what an equal-sized empty book holds after each booking not struck is delivered once, in serial order. Assumes nothing.
-use Rattle.std.specs.Prelude.{ℕ, ◌+◌, ◌-◌, ◌≤◌, List, [], ◌∷◌, ◌++◌, ◌≡◌, length, take, replicate}
+use Rattle.std.specs.Prelude.{Result, ℕ, ◌+◌, ◌-◌, ◌≤◌, List, [], ◌∷◌, ◌++◌, ◌≡◌, length, take, replicate}
 use Rattle.std.proofs.Math.Option.{none}
+use Rattle.words.specs.declared.Refusal.{Refusal}
 use Rattle.words.specs.Words.{most_words}
 use Rattle.words.specs.Outcome.{Outcome, drawn, refused}
 use Rattle.kinds.specs.declared.Request.{Request}
 use Rattle.kinds.specs.Kinds.{RequestFits}
 use Rattle.book.specs.declared.Delivered.{Delivered}
-use Rattle.book.specs.declared.Struck.{Struck}
 use Rattle.opening.specs.Calls.{call}
 use Rattle.layout.specs.Book.{most_bytes}
 use Rattle.book.specs.Deliver.{Booking, fresh, copy, delivered, deliver, DeliverAllows}
@@ -50,9 +50,9 @@ state b h = record { book = b; history = h }
 -- one call: any answer and any book at exit that its contract allows, with the history told by that answer
 abbrev pub Called : List ℕ → State → Operation → State → Type 0
 Called ws st (delivering s r) st' =
-    (a : Delivered) × (DeliverAllows ws st.book s r a st'.book × (st'.history ≡ after_delivering s r (delivered a) st.history))
+    (a : Result Delivered Refusal) × (DeliverAllows ws st.book s r a st'.book × (st'.history ≡ after_delivering s r (delivered a) st.history))
 Called ws st (striking j) st' =
-    (a : Struck) × (StrikeAllows ws st.book j a st'.book × (st'.history ≡ after_striking j (struck a) st.history))
+    (a : Result ℕ Refusal) × (StrikeAllows ws st.book j a st'.book × (st'.history ≡ after_striking j (struck a) st.history))
 
 -- calls one after another, over one tape
 abbrev pub Runs : List ℕ → State → List Operation → State → Type 0

@@ -1,9 +1,9 @@
 -- RULES, 'Demands', 3, over 'Lines of pull': whatever lines the pull service is fed over one tape, from an all-zero book, and whatever it
 -- does with each, as the contract of `serve` allows, the book is kept as demand 3 says, with the history of the calls that its lines ask
 -- for. Assumes nothing.
-use Rattle.std.specs.Prelude.{ℕ, suc, Bool, cond, List, [], ◌∷◌, ◌≡◌, eqb, length, replicate}
+use Rattle.std.specs.Prelude.{ℕ, suc, Bool, cond, Option, Some, None, List, [], ◌∷◌, ◌≡◌, eqb, length, replicate}
 use Rattle.request_line.specs.declared.Line.{Line}
-use Rattle.request_line.specs.declared.Line.TheVariants.{Deliver, Strike, StrikeFrom, Redraw, Passed, Unread}
+use Rattle.request_line.specs.declared.Line.TheVariants.{Deliver, Strike, StrikeFrom, Redraw, Passed}
 use Rattle.request_line.specs.Forms.{read_line}
 use Rattle.book.specs.Deliver.{deliver}
 use Rattle.book.specs.Strike.{strike}
@@ -11,13 +11,13 @@ use Rattle.service.specs.Service.{ServeAllows}
 use Rattle.demands.specs.Demand3.{Operation, delivering, striking, after_delivering, after_striking, State, state, Kept}
 
 -- the call that can write the book, if the line asks for one; where n bookings stand, a strike from m asks for one only if n is m
-abbrev pub operation_of : ℕ → Line → List Operation
-operation_of n (Deliver s r) = delivering s r ∷ []
-operation_of n (Strike j) = striking j ∷ []
-operation_of n (StrikeFrom j m) = cond (eqb n m) (striking j ∷ []) []
-operation_of n Redraw = []
-operation_of n Passed = []
-operation_of n Unread = []
+abbrev pub operation_of : ℕ → Option Line → List Operation
+operation_of n (Some (Deliver s r)) = delivering s r ∷ []
+operation_of n (Some (Strike j)) = striking j ∷ []
+operation_of n (Some (StrikeFrom j m)) = cond (eqb n m) (striking j ∷ []) []
+operation_of n (Some Redraw) = []
+operation_of n (Some Passed) = []
+operation_of n None = []
 
 -- one call, by the rules, and calls one after another
 abbrev pub next : List ℕ → State → Operation → State

@@ -2,7 +2,7 @@
 use mathlib.Core.Path.{sym, ◌∙◌}
 use mathlib.Core.List.{List}
 use Prim.Native.Nat.{ℕ}
-use Rattle.words.specs.declared.Answer.{Answer}
+use Rattle.words.specs.Paper.{Answer}
 use Rattle.words.specs.Draw.{Drawing, DrawAllows}
 use Rattle.words.proofs.Drawing.{accepted_exactly}
 use Rattle.words.proofs.Exactly.{along}

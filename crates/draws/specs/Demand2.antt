@@ -1,11 +1,10 @@
 -- RULES, 'Demands', 2, for draws: every draw equals the rules in count, words used and each refusal; counts keep to their support; one
 -- answer is possible. Assumes nothing.
 use Rattle.std.specs.Prelude.{ℕ, List, ◌↔◌, ◌≡◌, Float}
-use Rattle.words.specs.declared.Answer.{Answer}
 use Rattle.words.specs.Outcome.{drawn, refused}
 use Rattle.words.specs.Refusals.{First, NoneHolds}
 use Rattle.words.specs.Draw.{Drawing, conditions, DrawAllows}
-use Rattle.words.specs.Paper.{paper}
+use Rattle.words.specs.Paper.{Answer, paper}
 use Rattle.poisson.specs.Poisson.{poisson}
 use Rattle.geometric.specs.Geometric.{geometric}
 use Rattle.kinds.specs.declared.Request.{Request}

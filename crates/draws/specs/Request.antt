@@ -2,7 +2,7 @@
 use Rattle.std.specs.Prelude.{ℕ, List}
 use Rattle.std.specs.Float.{binary64}
 use Rattle.std.specs.Float.Ieee.{of_bits}
-use Rattle.words.specs.declared.Answer.{Answer}
+use Rattle.words.specs.Paper.{Answer}
 use Rattle.words.specs.Outcome.{Outcome}
 use Rattle.words.specs.Refusals.{Condition}
 use Rattle.words.specs.Draw.{Drawing, draw, DrawAllows}

@@ -4,18 +4,22 @@ use mathlib.Core.List.{List, [], ◌∷◌, ◌++◌, append_assoc}
 use mathlib.Core.Option.{Option, none, some, map}
 use Prim.Native.Nat.{ℕ, zero, suc, ◌+◌, ◌*◌, ◌^◌, ◌<◌, ◌≤◌}
 use native.Mathlib.Omega.{arith}
-use lib.ListN.{length, take, drop, length-append, length-drop}
+use lib.ListN.{get_or, get_or-eq_default, length, take, drop, length-append, length-drop}
 use lib.Seq.{drop_at, take-add, drop-drop}
+use Rattle.std.proofs.Common.{w8}
+use Rattle.std.proofs.Common.{Fits as FitsWord}
 use Rattle.bytes_le.specs.LittleEndian.{bytes_of, spelled, words_from}
-use Rattle.bytes_le.proofs.Numbers.{Bytes, bytes_drop, length_bytes, spelled_bytes, spelled_lt, bytes_spelled, length_words}
+use Rattle.bytes_le.proofs.Numbers.{Bytes, bytes_drop, length_bytes, spelled_bytes, spelled_lt, bytes_spelled, length_words, word_at}
 use Rattle.kinds.specs.declared.Request.{Request}
-use Rattle.kinds.specs.declared.Row.TheVariants.{Of, Unknown}
+use Rattle.std.specs.Prelude.{None, Some}
+use Rattle.kinds.specs.declared.Row.{Row}
 use Rattle.kinds.specs.Kinds.{fixed_length, kind_of, length_in, parameters_in, kind_number, parameters_of, length_of, request_of, AllFit, RequestFits}
+use Rattle.kinds.specs.Inner.{row_of}
 use Rattle.kinds.proofs.Table.{shape_length, length_small}
 use Rattle.kinds.proofs.Requests.{request_known, request_shape, request_length, request_again, kind_fits, kind_again, known_request, row_asks, row_asks_none}
 use Rattle.entry.specs.declared.Entry.{Entry}
 use Rattle.entry.specs.Entry.{booking, parameter_bytes, fixed_bytes, entry_bytes, length_at, kind_at, serial_at, place_at, used_at, count_at, parameters_at, request_at, entry_of, entry_at}
-use Rattle.entry.specs.Inner.{row_at}
+use Rattle.entry.specs.Inner.{HasEntry, row_at}
 
 -- an entry's numbers fit their fields
 pub record Fits (e : Entry) : Type 0 where
@@ -41,6 +45,10 @@ length_parameters : (ps : List ℕ) → length (parameter_bytes ps) ≡ 8 * leng
 unfolding parameter_bytes
 length_parameters [] = refl
 length_parameters (x ∷ xs) = simp (length-append, length_bytes) (omega (arith, length_parameters xs))
+
+-- a request's entry is its fixed fields and 8 bytes for each of its kind's parameters
+pub request_room : (r : Request) → length_of r ≡ fixed_length + 8 * parameters_in (kind_of (kind_number r))
+request_room r = shape_length (kind_number r) (request_known r)
 
 pub length_fixed : (e : Entry) → length (fixed_bytes e) ≡ fixed_length
 unfolding fixed_bytes
@@ -153,15 +161,50 @@ parameters_fit (suc k) l h = (spelled_lt 8 l h, parameters_fit k (drop 8 l) (byt
 field : (k i : ℕ) (l : List ℕ) → Bytes l → i + k ≤ length l → bytes_of k (spelled k (drop i l)) ≡ take k (drop i l)
 field k i l h f = bytes_spelled k (drop i l) (bytes_drop l i h) (rw length-drop (omega arith))
 
+-- ---- a parameter
+
+-- the word i of those that begin at `at`
+pub word_read : (b : List ℕ) (at n i r : ℕ) → i < n → r ≡ spelled 8 (drop (at + 8 * i) b) → r ≡ get_or (words_from n (drop at b)) i 0
+word_read b at n i r h e = e ∙ ap (spelled 8) (sym (drop-drop (8 * i) at b)) ∙ sym (word_at n (drop at b) i h)
+
+pub none_left : (b : List ℕ) (at n i : ℕ) → n ≤ i → 0 ≡ get_or (words_from n (drop at b)) i 0
+none_left b at n i h =
+    let past : length (words_from n (drop at b)) ≤ i = omega (arith, length_words n (drop at b)) in
+    sym (get_or-eq_default (words_from n (drop at b)) 0 past)
+
+-- ---- an entry that lies whole
+
+-- its fixed fields lie within the bytes
+pub fixed_room : (b : List ℕ) (i : ℕ) → HasEntry b i → i + fixed_length ≤ length b
+fixed_room b i h = omega (arith, h.room, shape_length (kind_at b i) h.known)
+
+-- and so do its parameters
+pub parameters_room : (b : List ℕ) (i k n : ℕ) → HasEntry b i → k ≡ kind_at b i → n ≡ parameters_in (kind_of k) → i + fixed_length + 8 * n ≤ length b
+parameters_room b i k n h ek en =
+    let e : n ≡ parameters_in (kind_of (kind_at b i)) = en ∙ ap (λ (m : ℕ). parameters_in (kind_of m)) ek in
+    omega (arith, h.room, shape_length (kind_at b i) h.known)
+
+-- the row of what was read
+pub row_read : (f : ℕ) (b : List ℕ) (i k n x y z : ℕ) → k ≡ kind_at b i → n ≡ parameters_in (kind_of k)
+    → x ≡ get_or (words_from n (drop (i + f) b)) 0 0 → y ≡ get_or (words_from n (drop (i + f) b)) 1 0 → z ≡ get_or (words_from n (drop (i + f) b)) 2 0
+    → row_of k x y z ≡ row_at f b i
+row_read f b i k n x y z ek en ex ey ez = rw (ex, ey, ez, en, ek)
+
+-- two bytes spell a number of 16 bits
+pub kind_small : (b : List ℕ) (at k : ℕ) → ((i : ℕ) → FitsWord w8 (get_or b i 0)) → k ≡ spelled 2 (drop (at + 2) b) → k < 2 ^ 16
+kind_small b at k fits e =
+    let by : Bytes b = λ i. (fits i).fits in
+    omega (arith, e, spelled_lt 2 (drop (at + 2) b) (bytes_drop b (at + 2) by))
+
 -- where a kind of the table stands there is a request, whatever the length of the fixed fields
 pub request_there : (f : ℕ) (l : List ℕ) (i : ℕ) → 0 < length_in (kind_of (kind_at l i)) → (q : Request) × (request_at f l i ≡ some q)
 request_there f l i known = known_request (kind_at l i) (parameters_at f l i) known
 
 -- and the table's row is the one that it makes
-pub row_request : (f : ℕ) (l : List ℕ) (i m n : ℕ) (q : Request) → Of m n q ≡ row_at f l i → request_at f l i ≡ some q
-row_request f l i m n q e = row_asks (kind_at l i) (parameters_at f l i) m n q e
+pub row_request : (f : ℕ) (l : List ℕ) (i : ℕ) (w : Row) → Some w ≡ row_at f l i → request_at f l i ≡ some w.request
+row_request f l i w e = row_asks (kind_at l i) (parameters_at f l i) w e
 
-pub row_there : {A : Type 0} (f : ℕ) (l : List ℕ) (i : ℕ) → 0 < length_in (kind_of (kind_at l i)) → Unknown ≡ row_at f l i → A
+pub row_there : {A : Type 0} (f : ℕ) (l : List ℕ) (i : ℕ) → 0 < length_in (kind_of (kind_at l i)) → None ≡ row_at f l i → A
 row_there f l i known u =
     let asked = (request_there f l i known).1 in
     let z : ◌≡◌ {A = ℕ} 0 1 = cc (row_asks_none (kind_at l i) (parameters_at f l i) u) in
@@ -173,10 +216,10 @@ unfolding entry_at
 entry_there l i q asked = ap (map (λ (x : Request). entry_of x l i)) asked
 
 -- of the row's request and the fields that were read
-pub entry_made : (l : List ℕ) (i m n : ℕ) (q : Request) (s p u c : ℕ) → Of m n q ≡ row_at fixed_length l i
-    → s ≡ serial_at l i → p ≡ place_at l i → u ≡ used_at l i → c ≡ count_at l i → entry_at l i ≡ some (booking q s p u c)
-entry_made l i m n q s p u c e es ep eu ec =
-    entry_there l i q (row_request fixed_length l i m n q e) ∙ sym (λ j. some (booking q (es j) (ep j) (eu j) (ec j)))
+pub entry_made : (l : List ℕ) (i : ℕ) (w : Row) (s p u c : ℕ) → Some w ≡ row_at fixed_length l i
+    → s ≡ serial_at l i → p ≡ place_at l i → u ≡ used_at l i → c ≡ count_at l i → entry_at l i ≡ some (booking w.request s p u c)
+entry_made l i w s p u c e es ep eu ec =
+    entry_there l i w.request (row_request fixed_length l i w e) ∙ sym (λ j. some (booking w.request (es j) (ep j) (eu j) (ec j)))
 
 -- the other way round: an entry that is read has the fields that stand there
 pub entry_tells : (l : List ℕ) (i : ℕ) (e : Entry) → entry_at l i ≡ some e → (q : Request) × (request_at fixed_length l i ≡ some q) × (e ≡ entry_of q l i)

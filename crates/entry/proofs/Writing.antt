@@ -12,7 +12,10 @@ use Rattle.bytes_le.specs.LittleEndian.{bytes_of}
 use Rattle.bytes_le.proofs.Numbers.{length_bytes}
 use Rattle.bytes_le.proofs.Runs.{sets_append}
 use Rattle.entry.specs.declared.Entry.{Entry}
-use Rattle.kinds.specs.Kinds.{fixed_length, kind_number, parameters_of, length_of}
+use Rattle.kinds.specs.declared.Parts.{Parts}
+use Rattle.kinds.specs.declared.Request.{Request}
+use Rattle.kinds.specs.Kinds.{fixed_length, kind_of, parameters_in, kind_number, parts_of, parameters_of, length_of}
+use Rattle.kinds.proofs.Table.{parameters_few}
 use Rattle.entry.specs.Entry.{parameter_bytes, fixed_bytes, entry_bytes}
 use Rattle.entry.proofs.Entries.{length_fixed}
 
@@ -71,6 +74,15 @@ module _ (b b1 b2 b3 : List ℕ) (at x y z : ℕ) where
   three_run (suc (suc zero)) h e1 e2 e3 = e3 ∙ e2 ∙ two_numbers e1
   three_run (suc (suc (suc zero))) h e1 e2 e3 = e3 ∙ three_numbers e1 e2
   three_run (suc (suc (suc (suc n)))) h e1 e2 e3 = absurd (omega arith)
+
+-- of a request's parts the first, as many as its kind has parameters
+pub parameters_run : (b b1 b2 b3 : List ℕ) (at n : ℕ) (p : Parts) (r : Request) → p ≡ parts_of r → n ≡ parameters_in (kind_of p.kind)
+    → b1 ≡ cond (ltb 0 n) (sets b (at + 8 * 0) (bytes_of 8 p.first)) b → b2 ≡ cond (ltb 1 n) (sets b1 (at + 8 * 1) (bytes_of 8 p.second)) b1
+    → b3 ≡ cond (ltb 2 n) (sets b2 (at + 8 * 2) (bytes_of 8 p.third)) b2 → b3 ≡ sets b at (parameter_bytes (parameters_of r))
+unfolding parameters_of
+parameters_run b b1 b2 b3 at n p r told asked e1 e2 e3 =
+    three_run b b1 b2 b3 at p.first p.second p.third n (omega (arith, asked, parameters_few p.kind)) e1 e2 e3
+    ∙ rw (asked, told)
 
 -- ---- an entry
 

@@ -252,10 +252,10 @@ module _ (p : Float) (ws : List ℕ) where
 
 -- what the search reads is the draw's, where p is below 2/3, q isn't 1 and its squarings come down
 pub search_given : (p : Float) (ws : List ℕ) → is_large p ≡ false → is_never p ≡ false → lt half (squares (q_of p)).pi ≡ false
-    → (k : ℕ) (pi : Float) → k ≡ (squares (q_of p)).k → pi ≡ (squares (q_of p)).pi
-    → (o : Outcome ℕ) → o ≡ reading (search_rule (q_of p) (2 ^ k) pi) ws → o ≡ cond (is_too_rare p) (refused 9) (geometric_reading p ws)
+    → (q : Float) (k : ℕ) (pi : Float) → (q ≡ q_of p) × (k ≡ (squares (q_of p)).k) × (pi ≡ (squares (q_of p)).pi)
+    → (o : Outcome ℕ) → o ≡ reading (search_rule q (2 ^ k) pi) ws → o ≡ cond (is_too_rare p) (refused 9) (geometric_reading p ws)
 unfolding geometric_reading is_too_rare
-search_given p ws l n r k pi ek epi o e = e ∙ simp (l, n, r, ← ek, ← epi)
+search_given p ws l n r q k pi same o e = e ∙ simp (same.0, same.1, same.2, l, n, r)
 
 reading_local_of : (p : Float) → Local (geometric_reading p)
 unfolding geometric_reading

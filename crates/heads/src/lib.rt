@@ -7,13 +7,13 @@ ghost use Rattle.std.specs.Prelude.{◌≡◌, [], ◌∷◌};
 ghost use Rattle.std.specs.Float.{binary64};
 ghost use Rattle.std.specs.Float.Ieee.{of_bits};
 ghost use Rattle.words.specs.Draw.{DrawAllows};
-ghost use Rattle.kinds.specs.declared.Request.TheVariants.{Hypergeometric, Poisson, Geometric, StandardGeometric};
+ghost use Rattle.kinds.specs.declared.Request.TheVariants as kind;
 ghost use Rattle.poisson.specs.Poisson.{poisson};
 ghost use Rattle.quarters.specs.Quarters.{quarters};
 ghost use Rattle.geometric.specs.Geometric.{geometric};
 ghost use Rattle.standard_geometric.specs.Standard.{standard_geometric};
 ghost use Rattle.hypergeometric.specs.SetUp.{SetUpAllows};
-ghost use Rattle.hypergeometric.specs.Hypergeometric.{hypergeometric};
+ghost use Rattle.hypergeometric.specs.Hypergeometric.{from_kept, hypergeometric};
 ghost use Rattle.draws.specs.Request.{Answers};
 ghost use Rattle.book.specs.Deliver.{DeliverAllows};
 ghost use Rattle.book.specs.Strike.{StrikeAllows};
@@ -24,13 +24,13 @@ ghost use Rattle.banlothek.specs.Face.{DrawTells, DeliverTells, StrikeTells, Red
 
 use answer_lines::ANSWER_BYTES;
 use banlothek::BanlothekAnswer;
-use book::{Delivered, Struck};
+use book::Delivered;
 use book_lines::LISTING_BYTES;
-use hypergeometric::SetUp;
+use hypergeometric::Hypergeometric;
 use kinds::Request;
 use redraws::Redrawn;
 use service::Served;
-use words::Answer;
+use words::{Answer, Refusal};
 
 // ---- draws
 
@@ -76,10 +76,16 @@ fn hypergeometric_draw(tape: &[u64], total: u64, marked: u64, sample: u64) -> An
     hypergeometric::sample(tape, total, marked, sample)
 }
 
-fn tray_set_up(total: u64, marked: u64, sample: u64) -> SetUp
+fn tray_set_up(total: u64, marked: u64, sample: u64) -> Result<Hypergeometric, Refusal>
     ensures { SetUpAllows total marked sample result }
 {
     hypergeometric::set_up(total, marked, sample)
+}
+
+fn kept_draw(tape: &[u64], kept: Hypergeometric) -> Answer
+    ensures { DrawAllows (from_kept kept) tape.now result }
+{
+    hypergeometric::sample_from(tape, kept)
 }
 
 fn draw(tape: &[u64], request: Request) -> Answer
@@ -90,19 +96,24 @@ fn draw(tape: &[u64], request: Request) -> Answer
 
 // ---- the book
 
-fn deliver(tape: &[u64], book: &mut [u8], serial: u32, request: Request) -> Delivered
+fn deliver(
+    tape: &[u64],
+    book: &mut [u8],
+    serial: u32,
+    request: Request,
+) -> Result<Delivered, Refusal>
     ensures { DeliverAllows tape.now book.old serial request result book.new }
 {
     book::deliver(tape, book, serial, request)
 }
 
-fn strike(tape: &[u64], book: &mut [u8], j: u64) -> Struck
+fn strike(tape: &[u64], book: &mut [u8], j: u64) -> Result<u64, Refusal>
     ensures { StrikeAllows tape.now book.old j result book.new }
 {
     book::strike(tape, book, j)
 }
 
-fn redraw(tape: &[u64], book: &[u8]) -> Redrawn
+fn redraw(tape: &[u64], book: &[u8]) -> Result<Redrawn, Refusal>
     ensures { RedrawAllows tape.now book.now result }
 {
     redraws::redraw(tape, book)
@@ -128,28 +139,29 @@ fn serve(
     service::serve(tape, book, number, line, out)
 }
 
-// ---- the C functions
+// ---- the C functions, of the crate banlothek; the exports of banlothek_c are called there likewise, since a library for C is no crate that another
+// calls
 
 fn c_draw_hypergeometric(tape: &[u64], total: u64, marked: u64, sample: u64) -> BanlothekAnswer
-    ensures { DrawTells (Hypergeometric total marked sample) tape.now result }
+    ensures { DrawTells (kind.Hypergeometric total marked sample) tape.now result }
 {
     banlothek::banlothek_draw_hypergeometric(tape, total, marked, sample)
 }
 
 fn c_draw_poisson(tape: &[u64], threshold: u64) -> BanlothekAnswer
-    ensures { DrawTells (Poisson threshold) tape.now result }
+    ensures { DrawTells (kind.Poisson threshold) tape.now result }
 {
     banlothek::banlothek_draw_poisson(tape, threshold)
 }
 
 fn c_draw_geometric(tape: &[u64], p: u64) -> BanlothekAnswer
-    ensures { DrawTells (Geometric p) tape.now result }
+    ensures { DrawTells (kind.Geometric p) tape.now result }
 {
     banlothek::banlothek_draw_geometric(tape, p)
 }
 
 fn c_draw_standard_geometric(tape: &[u64]) -> BanlothekAnswer
-    ensures { DrawTells StandardGeometric tape.now result }
+    ensures { DrawTells kind.StandardGeometric tape.now result }
 {
     banlothek::banlothek_draw_standard_geometric(tape)
 }

@@ -1,10 +1,11 @@
 -- Laws of the set-up: what an accepted tray's numbers keep to, what a record that the set-up gave is, and that its answer's reading loses
 -- nothing. Assumes nothing.
 use mathlib.Core.Path.{◌≡◌, sym, ap, ◌∙◌, subst}
-use Prim.Native.Nat.{ℕ, ◌+◌, ◌*◌, ◌^◌, ◌≤◌, ◌<◌, min}
+use Prim.Native.Nat.{ℕ, ◌+◌, ◌≤◌, min}
 use native.Mathlib.Nat.{mul-le-mul}
 use native.Mathlib.Omega.{arith}
 use borrow.Author.Tests.{ltb-false}
+use Rattle.std.proofs.Common.{Ok, Err}
 use Rattle.words.specs.Outcome.{drawn}
 use Rattle.words.specs.Refusals.{NoneHolds}
 use Rattle.words.specs.Paper.{number_of}
@@ -12,20 +13,12 @@ use Rattle.words.proofs.Reading.{refused_not_drawn}
 use Rattle.words.proofs.Exactly.{drawn_exactly}
 use Rattle.words.proofs.OneAnswer.{one_refusal}
 use Rattle.hypergeometric.specs.declared.Hypergeometric.{Hypergeometric}
-use Rattle.hypergeometric.specs.declared.SetUp.{SetUp}
-use Rattle.hypergeometric.specs.declared.SetUp.TheVariants.{Ready, Refused}
 use Rattle.hypergeometric.specs.Reduction.{population_cap, reduction}
-use Rattle.hypergeometric.specs.Inner.{Lands}
-use Rattle.hypergeometric.specs.SetUp.{set_up, tray_refusals, settled, set_up_paper, FromSetUp}
+use Rattle.hypergeometric.specs.Inner.{Lands, Sizes}
+use Rattle.hypergeometric.specs.SetUp.{SetUp, set_up, tray_refusals, settled, set_up_paper, FromSetUp}
 use Rattle.hypergeometric.proofs.Reducing.{n1+n2, k≤n2, lands}
 
--- the sizes of the reduction's numbers, for what is added and multiplied with them
-pub record Sizes (N n1 n2 k : ℕ) : Type 0 where
-  pub n1≤ : n1 ≤ N
-  pub n2≤ : n2 ≤ N
-  pub k≤ : k ≤ N
-  pub product : (k + 1) * (n1 + 1) < 2 ^ 64
-
+-- the sizes of the reduction's numbers
 pub sizes : (N K n : ℕ) → K ≤ N → n ≤ N → N ≤ population_cap → Sizes N (reduction N K n).n1 (reduction N K n).n2 (reduction N K n).k
 sizes N K n hK hn h =
     let s = n1+n2 N K n hK hn in
@@ -57,8 +50,8 @@ module _ (N K n : ℕ) (none : NoneHolds (tray_refusals N K n)) where
   set_up_lands = let h = accepted_N in lands N K n accepted_K accepted_n (omega arith)
 
 -- ---- a record that the set-up gave
--- by this a caller that keeps a record meets what `sample_from` asks
-pub ready_from : (N K n : ℕ) (a : SetUp) (h : Hypergeometric) → set_up_paper a ≡ settled N K n → a ≡ Ready h → FromSetUp h
+-- whatever answer the contract of `set_up` allows, its record is one
+pub ready_from : (N K n : ℕ) (a : SetUp) (h : Hypergeometric) → set_up_paper a ≡ settled N K n → a ≡ Ok h → FromSetUp h
 ready_from N K n a h e r = record { N = N; K = K; n = n; gives = sym e ∙ ap set_up_paper r }
 
 module _ (h : Hypergeometric) (f : FromSetUp h) where
@@ -81,7 +74,7 @@ module _ (h : Hypergeometric) (f : FromSetUp h) where
 
 -- equal readings, equal answers: so `set_up`'s contract leaves one
 pub one_set_up : (a b : SetUp) → set_up_paper a ≡ set_up_paper b → a ≡ b
-one_set_up (Ready h) (Ready g) e = cc
-one_set_up (Ready h) (Refused y) e = refused_not_drawn (number_of y) h 0 (sym e)
-one_set_up (Refused x) (Ready g) e = refused_not_drawn (number_of x) g 0 e
-one_set_up (Refused x) (Refused y) e = ap Refused (one_refusal x y (cc))
+one_set_up (Ok h) (Ok g) e = cc
+one_set_up (Ok h) (Err y) e = refused_not_drawn (number_of y) h 0 (sym e)
+one_set_up (Err x) (Ok g) e = refused_not_drawn (number_of x) g 0 e
+one_set_up (Err x) (Err y) e = ap Err (one_refusal x y (cc))

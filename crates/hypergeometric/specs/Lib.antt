@@ -1,3 +1,4 @@
+pub mod Record
 pub mod Reduction
 pub mod SetUp
 pub mod RustTest

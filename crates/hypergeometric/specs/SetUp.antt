@@ -1,15 +1,14 @@
 -- RULES, 'The inversion': the set-up record, and the refusals of a tray's parameters in their order. Assumes nothing.
-use Rattle.std.specs.Prelude.{ℕ, ◌+◌, ◌*◌, Bool, not, ◌||◌, List, [], ◌∷◌, ◌≡◌, ltb, Float}
+use Rattle.std.specs.Prelude.{ℕ, ◌+◌, ◌*◌, Bool, not, ◌||◌, List, [], ◌∷◌, ◌≡◌, ltb, Float, Result, Ok, Err}
 use Rattle.std.specs.Float.Ieee.{eq}
 use Rattle.std.specs.Float.Ieee.Scale.{finite}
 use Rattle.words.specs.Words.{ratio}
+use Rattle.words.specs.declared.Refusal.{Refusal}
 use Rattle.words.specs.Outcome.{Outcome, drawn, refused}
 use Rattle.words.specs.Refusals.{Condition, ◌on◌, given}
 use Rattle.words.specs.Paper.{number_of}
 use Rattle.hypergeometric.specs.declared.Hypergeometric.{Hypergeometric}
 use Rattle.hypergeometric.specs.declared.Reduced.{Reduced}
-use Rattle.hypergeometric.specs.declared.SetUp.{SetUp}
-use Rattle.hypergeometric.specs.declared.SetUp.TheVariants.{Ready, Refused}
 use Rattle.hypergeometric.specs.Reduction.{population_cap, reduction}
 use Rattle.first_probability.specs.First.{first_probability}
 
@@ -43,10 +42,14 @@ tray_refusals N K n =
 unfoldable pub settled : ℕ → ℕ → ℕ → Outcome Hypergeometric
 settled N K n = given (tray_refusals N K n) (drawn (set_up N K n) 0)
 
--- the set-up's answer in the rules' terms; nothing is lost (`one_set_up`)
+-- what the set-up answers: its record, or why there is none
+abbrev pub SetUp : Type 0
+SetUp = Result Hypergeometric Refusal
+
+-- that answer in the rules' terms; nothing is lost (`one_set_up`)
 abbrev pub set_up_paper : SetUp → Outcome Hypergeometric
-set_up_paper (Ready h) = drawn h 0
-set_up_paper (Refused x) = refused (number_of x)
+set_up_paper (Ok h) = drawn h 0
+set_up_paper (Err x) = refused (number_of x)
 
 -- The contract of the set-up: its answer a is, in the rules' terms, what the set-up comes to.
 abbrev pub SetUpAllows : ℕ → ℕ → ℕ → SetUp → Type 0

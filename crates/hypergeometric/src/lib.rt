@@ -2,41 +2,24 @@
 // bits are the platform's.
 #![tactic(auto)]
 
-ghost use Rattle.std.specs.Prelude.{◌≡◌, [], ◌∷◌, ◌≤◌, ◌<◌};
-ghost use Rattle.std.specs.Float.Ieee.Scale.{finite};
-ghost use Rattle.words.specs.Outcome.{drawn};
-ghost use Rattle.words.specs.Refusals.{◌on◌, given};
+ghost use Rattle.std.specs.Prelude.{◌≡◌, ◌≤◌, ◌<◌};
 ghost use Rattle.words.specs.Draw.{DrawAllows};
-ghost use Rattle.hypergeometric.specs.Reduction.{landing, flip, by_marked, reduction};
-ghost use Rattle.hypergeometric.specs.Inner.{Lands, Small};
-ghost use Rattle.hypergeometric.specs.SetUp.{with_first, zero_or_not_finite, set_up_paper, SetUpAllows, FromSetUp};
+ghost use Rattle.hypergeometric.specs.Reduction.{population_cap, landing, flip, by_marked, reduction};
+ghost use Rattle.hypergeometric.specs.Inner.{Lands, Small, Sizes};
+ghost use Rattle.hypergeometric.specs.SetUp.{SetUpAllows};
 ghost use Rattle.hypergeometric.specs.Inversion.{next_p, inverted};
 ghost use Rattle.hypergeometric.specs.Hypergeometric.{from_kept, hypergeometric};
 
-use first_probability::{first_probability, smaller, whole};
-use words::{Answer, Draw, Refusal, Word};
+use first_probability::{first_probability, whole};
+use std::marker::Model;
+use std::ops::Neg;
+use words::{Answer, Draw, Refusal};
 
 // The largest population that is drawn from.
 const CAP: u64 = 1_048_576;
 
-// The sign of x in offset + sign·x.
-#[derive(Clone, Copy)]
-enum Sign {
-    Plus,
-    Minus,
-}
-
-// What the reduction leaves of a population, its marked and a sample of it.
-#[derive(Clone, Copy)]
-struct Reduced {
-    n1: u64,
-    n2: u64,
-    k: u64,
-    offset: u64,
-    sign: Sign,
-}
-
-// The set-up record: the reduction's numbers and the probability of x = 0. Only the set-up makes one.
+// The set-up record: the reduction's numbers and the probability of x = 0. Each is one that the set-up gives, so a draw from it asks
+// nothing more.
 #[derive(Clone, Copy)]
 pub struct Hypergeometric {
     n1: u64,
@@ -47,17 +30,24 @@ pub struct Hypergeometric {
     first: f64,
 }
 
-// What the set-up answers: its record, or why there is none.
-#[derive(Clone, Copy)]
-pub enum SetUp {
-    Ready(Hypergeometric),
-    Refused(Refusal),
+impl Model for Hypergeometric {
+    ghost use Rattle.hypergeometric.specs.Record.{Record};
+
+    ghost Value = { Record };
+
+    ghost use Rattle.hypergeometric.specs.SetUp.{FromSetUp};
+
+    ghost view = { λ h. record { n1 = h.n1; n2 = h.n2; k = h.k; offset = h.offset; sign = h.sign; first = h.first } };
+
+    ghost invariant = { λ h. FromSetUp (record { n1 = h.n1; n2 = h.n2; k = h.k; offset = h.offset; sign = h.sign; first = h.first }) };
+
+    ghost inverse = { λ r. record { n1 = r.n1; n2 = r.n2; k = r.k; offset = r.offset; sign = r.sign; first = r.first } };
 }
 
 // ---- the draw
 
 // The hypergeometric draw: the marked among sample_size things, taken without replacement from total_population_size things of which
-// population_with_feature are marked.
+// population_with_feature are marked. (The three one by one, here and at `set_up`: C and docs/PUBLIC.md have them so.)
 pub fn sample(
     tape: &[u64],
     total_population_size: u64,
@@ -66,104 +56,94 @@ pub fn sample(
 ) -> Answer
     ensures { DrawAllows (hypergeometric total_population_size population_with_feature sample_size) tape.now result }
 {
+    // here, since 1 comes before the parameters' refusals; sample_from's own test is for its other callers
     if words::too_long(tape) {
-        return Answer::Refused(Refusal::TapeTooLong);
+        return Err(Refusal::TapeTooLong);
     }
-    let s = set_up(total_population_size, population_with_feature, sample_size);
-    match s {
-        SetUp::Ready(kept) => sample_from(tape, kept),
-        SetUp::Refused(refusal) => Answer::Refused(refusal),
-    }
+    let kept = set_up(total_population_size, population_with_feature, sample_size)?;
+    sample_from(tape, kept)
 }
 
-// The draw from a kept record, for a caller that draws many times from one tray. No entry point: the record has to be one that the
-// set-up gave.
+// The draw from a kept record, for a caller that draws many times from one tray.
 pub fn sample_from(tape: &[u64], kept: Hypergeometric) -> Answer
-    requires { FromSetUp kept }
     ensures { DrawAllows (from_kept kept) tape.now result }
 {
     if words::too_long(tape) {
-        return Answer::Refused(Refusal::TapeTooLong);
+        return Err(Refusal::TapeTooLong);
     }
-    let Word::Is(w) = words::word_at(tape, 0) else {
-        return Answer::Refused(Refusal::Exhausted);
-    };
-    let x = invert(kept, words::fraction(w));
-    let sign = kept.sign;
-    let count = land(sign, kept.offset, x);
-    Answer::Drawn(Draw { count, used: 1 })
+    let w = words::word_at(tape, 0).ok_or(Refusal::Exhausted)?;
+    let x = kept.invert(words::fraction(w));
+    let count = kept.sign.land(kept.offset, x);
+    Ok(Draw { count, used: 1 })
 }
 
 // ---- the set-up
 
 // `Hypergeometric::new`: the refusals that look at no word, and the record.
-pub fn set_up(total_population_size: u64, population_with_feature: u64, sample_size: u64) -> SetUp
+pub fn set_up(
+    total_population_size: u64,
+    population_with_feature: u64,
+    sample_size: u64,
+) -> Result<Hypergeometric, Refusal>
     ensures { SetUpAllows total_population_size population_with_feature sample_size result }
 {
     if population_with_feature > total_population_size {
-        return SetUp::Refused(Refusal::ProbabilityTooLarge);
+        return Err(Refusal::ProbabilityTooLarge);
     }
     if sample_size > total_population_size {
-        return SetUp::Refused(Refusal::SampleSizeTooLarge);
+        return Err(Refusal::SampleSizeTooLarge);
     }
     if total_population_size > CAP {
-        return SetUp::Refused(Refusal::CapExceeded);
+        return Err(Refusal::CapExceeded);
     }
     let r = reduce(total_population_size, population_with_feature, sample_size);
-    if (r.k + 1) * (r.n1 + 1) < 10 * (total_population_size + 2) {
-        let first = first_probability(total_population_size, r.n1, r.n2, r.k);
-        return with_first(r, first);
+    if (r.k + 1) * (r.n1 + 1) >= 10 * (total_population_size + 2) {
+        return Err(Refusal::ModeTooHigh);
     }
-    SetUp::Refused(Refusal::ModeTooHigh)
-}
-
-// The record with a first probability that is neither zero nor past the floats' range.
-fn with_first(r: Reduced, first: f64) -> SetUp
-    ensures { set_up_paper result ≡ given (2 on zero_or_not_finite first ∷ []) (drawn (with_first r first) 0) }
-{
-    if first == 0.0 || !is_finite(first) {
-        return SetUp::Refused(Refusal::PopulationTooLarge);
+    let first = first_probability(total_population_size, r.n1, r.n2, r.k);
+    if first == 0.0 || !first.is_finite() {
+        return Err(Refusal::PopulationTooLarge);
     }
-    let sign = r.sign;
-    SetUp::Ready(Hypergeometric {
+    Ok(Hypergeometric {
         n1: r.n1,
         n2: r.n2,
         k: r.k,
         offset: r.offset,
-        sign,
+        sign: r.sign,
         first,
     })
 }
 
-// Neither an infinity nor a NaN.
-fn is_finite(p: f64) -> bool
-    ensures { result ≡ finite p }
-{
-    p < 1.0 / 0.0 && p > -1.0 / 0.0
-}
-
 // ---- the reduction
+
+// What the reduction leaves of a population, its marked and a sample of it. The record has these five fields again, and no `Reduced` within it:
+// document 01's form of it is flat.
+#[derive(Clone, Copy)]
+struct Reduced {
+    n1: u64,
+    n2: u64,
+    k: u64,
+    offset: u64,
+    sign: Sign,
+}
 
 // Marked and unmarked are exchanged so that n1 is the lesser; then a sample of more than half is exchanged with what it leaves, which
 // has the rest of n1.
 fn reduce(total_population_size: u64, population_with_feature: u64, sample_size: u64) -> Reduced
-    requires { (population_with_feature ≤ total_population_size) × (sample_size ≤ total_population_size) }
-    ensures { result ≡ reduction total_population_size population_with_feature sample_size }
+    requires within { (population_with_feature ≤ total_population_size) × (sample_size ≤ total_population_size) }
+    requires cap { total_population_size ≤ population_cap }
+    ensures is { result ≡ reduction total_population_size population_with_feature sample_size }
+    ensures sizes { Sizes total_population_size result.n1 result.n2 result.k }
 {
     let r = by_marked(total_population_size, population_with_feature, sample_size);
     if sample_size <= total_population_size / 2 {
-        r
-    } else {
-        let sign = r.sign;
-        let offset = land(sign, r.offset, r.n1);
-        let sign = flipped(sign);
-        Reduced {
-            n1: r.n1,
-            n2: r.n2,
-            k: total_population_size - sample_size,
-            offset,
-            sign,
-        }
+        return r;
+    }
+    Reduced {
+        k: total_population_size - sample_size,
+        offset: r.sign.land(r.offset, r.n1),
+        sign: -r.sign,
+        ..r
     }
 }
 
@@ -192,51 +172,64 @@ fn by_marked(total_population_size: u64, population_with_feature: u64, sample_si
     }
 }
 
-// offset + sign·x.
-fn land(sign: Sign, offset: u64, x: u64) -> u64
-    requires { Lands sign offset x }
-    ensures { result ≡ landing sign offset x }
-{
-    match sign {
-        Sign::Plus => offset + x,
-        Sign::Minus => offset - x,
+// The sign of x in offset + sign·x.
+#[derive(Clone, Copy)]
+enum Sign {
+    Plus,
+    Minus,
+}
+
+impl Sign {
+    // offset + sign·x.
+    fn land(self, offset: u64, x: u64) -> u64
+        requires { Lands self offset x }
+        ensures { result ≡ landing self offset x }
+    {
+        match self {
+            Sign::Plus => offset + x,
+            Sign::Minus => offset - x,
+        }
     }
 }
 
-// The other sign.
-fn flipped(sign: Sign) -> Sign
-    ensures { result ≡ flip sign }
-{
-    match sign {
-        Sign::Plus => Sign::Minus,
-        Sign::Minus => Sign::Plus,
+impl Neg for Sign {
+    type Output = Sign;
+
+    ghost neg_gives = { λ sign other. other ≡ flip sign };
+
+    fn neg(self) -> Sign {
+        match self {
+            Sign::Plus => Sign::Minus,
+            Sign::Minus => Sign::Plus,
+        }
     }
 }
 
 // ---- the inversion
 
-// The first x whose probability the fraction no longer exceeds, each smaller one's taken off before. Rounding can leave u above the last
-// p, so the bound is min(n1, k), where the support ends: the Rust walks on to k.
-fn invert(kept: Hypergeometric, fraction: f64) -> u64
-    requires { Small kept.n1 kept.n2 kept.k }
-    ensures { result ≡ inverted kept.n1 kept.n2 kept.k kept.first fraction }
-{
-    let n1 = kept.n1;
-    let n2 = kept.n2;
-    let k = kept.k;
-    let bound = smaller(n1, k);
-    let mut u = fraction;
-    let mut p = kept.first;
-    let mut x: u64 = 0;
-    while u > p && x < bound {
-        u = u - p;
-        p = next_p(n1, n2, k, x, p);
-        x += 1;
+impl Hypergeometric {
+    // The first x whose probability the fraction no longer exceeds, each smaller one's taken off before. Rounding can leave u above the
+    // last p, so the bound is min(n1, k), where the support ends: the Rust walks on to k.
+    fn invert(self, fraction: f64) -> u64
+        ensures { result ≡ inverted self.n1 self.n2 self.k self.first fraction }
+    {
+        let bound = self.n1.min(self.k);
+        let mut u = fraction;
+        let mut p = self.first;
+        let mut x: u64 = 0;
+        // As a `for x in 0..bound` a draw from a kept (60, 24, 7) takes 86.2 instructions, and 82.2 as this: docs/COSTS.md's row of a draw from a
+        // kept set-up is 1.00 of the Rust's.
+        while u > p && x < bound {
+            u -= p;
+            p = next_p(self.n1, self.n2, self.k, x, p);
+            x += 1;
+        }
+        x
     }
-    x
 }
 
-// The probability of x + 1, from that of x.
+// The probability of x + 1, from that of x. A function of the three numbers and no method: by them alone each whole number of the step is shown
+// to be a float's, and from the record that would be shown anew at each operation.
 fn next_p(n1: u64, n2: u64, k: u64, x: u64, p: f64) -> f64
     requires { Small n1 n2 k × (x < n1) × (x < k) }
     ensures { result ≡ next_p n1 n2 k x p }

@@ -1,45 +1,29 @@
-// Bytes from a reader, an error told from the end. What a file gives no contract can say; how many bytes of the buffer it fills, these do.
+// Bytes from a reader, an error told from the end. What a file gives no contract can say; how many bytes of the buffer it fills, this does.
 #![tactic(auto)]
 
-ghost use Rattle.std.specs.Prelude.{◌≡◌, length};
-ghost use Rattle.input.specs.Inner.{Within};
-ghost use Rattle.input.specs.declared.Got.TheVariants.{Bytes};
+ghost use Rattle.std.specs.Prelude.{◌≡◌, ℕ, ◌≤◌, ◌<◌, length, take, IfOk, OnErr, Ok};
+ghost use Rattle.std.specs.Io.KnownBytes.{Consumes, IsAtEnd};
 
+use std::io;
 use std::io::Read;
 
-// What reading gave: so many bytes, 0 at the end; or that it failed.
-#[derive(Clone, Copy)]
-pub enum Got {
-    Bytes(usize),
-    Failed,
-}
-
-// One read into the front of `buf`.
-pub fn read_some<R: Read>(reader: &mut R, buf: &mut [u8]) -> Got
-    ensures { Within (length buf.new) result }
+// Reads until `buf` is full or the input ends, and answers how many bytes it read. Where `buf` has no room, it reads nothing, and can't
+// fail. An error is the reader's own, and ends the reading: what was read before it is at the front of `buf`, but nothing tells how much.
+#[tactic(auto, using(crate::proofs::Filling::consumed_behind))]
+pub fn fill<R: Read>(reader: &mut R, buf: &mut [u8]) -> io::Result<usize>
+    ensures within { IfOk result (λ n. n ≤ length buf.new) }
+    ensures no_room { length buf.new ≡ 0 → result ≡ Ok 0 }
+    ensures bytes { IfOk result (λ n. Consumes (R.remaining reader.old) (R.remaining reader.new) (take n buf.new)) }
+    ensures end { IfOk result (λ n. n < length buf.new → IsAtEnd (R.remaining reader.new)) }
+    ensures err { OnErr result ((n : ℕ) × (n < length buf.new) × Consumes (R.remaining reader.old) (R.remaining reader.new) (take n buf.new)) }
 {
-    match reader.read(buf) {
-        Ok(n) => Got::Bytes(n),
-        Err(_) => Got::Failed,
-    }
-}
-
-// Reads until `buf` is full or the input ends. Where `buf` has no room, it reads nothing, and can't fail.
-pub fn fill<R: Read>(reader: &mut R, buf: &mut [u8]) -> Got
-    ensures within { Within (length buf.new) result }
-    ensures no_room { length buf.new ≡ 0 → result ≡ Bytes 0 }
-{
-    let mut have: usize = 0;
+    // the loop counts bytes by itself: how many a read gives is known only after it
+    let mut have = 0;
     while have < buf.len() {
-        match read_some(reader, &mut buf[have..]) {
-            Got::Failed => return Got::Failed,
-            Got::Bytes(n) => {
-                if n == 0 {
-                    break;
-                }
-                have += n;
-            }
+        match reader.read(&mut buf[have..])? {
+            0 => break,
+            n => have += n,
         }
     }
-    Got::Bytes(have)
+    Ok(have)
 }

@@ -1,3 +1,2 @@
 pub mod Support
-pub mod Numbers
 pub mod Trays

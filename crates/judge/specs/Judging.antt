@@ -1,13 +1,12 @@
 -- When a draw here and the Rust's draw over the same words agree, and which entry of docs/DIFFERENCES.md has one that doesn't (RULES,
 -- 'Against the Rust'). Assumes nothing.
-use Rattle.std.specs.Prelude.{ℕ, Bool, false, cond, not, ◌&&◌, eqb, leb}
+use Rattle.std.specs.Prelude.{ℕ, Bool, false, cond, not, ◌&&◌, eqb, leb, Result, Ok, Err}
+use Rattle.words.specs.declared.Draw.{Draw}
 use Rattle.words.specs.Outcome.{Outcome, drawn, refused}
 use Rattle.words.specs.Paper.{told}
 use Rattle.kinds.specs.declared.Request.{Request}
 use Rattle.kinds.specs.Kinds.{kind_number, parts_of}
 use Rattle.hypergeometric.specs.Reduction.{least, most}
-use Rattle.judge.specs.declared.Said.{Said}
-use Rattle.judge.specs.declared.Said.TheVariants.{Drew, Stopped}
 use Rattle.judge.specs.declared.Verdict.{Verdict}
 use Rattle.judge.specs.declared.Verdict.TheVariants.{Agrees, Listed, Differs}
 
@@ -25,10 +24,14 @@ rust_did act c u =
     (cond (eqb act 6) (refused 6)
     (cond (eqb act 7) (refused 9) (refused 0))))))))
 
--- the enum as an outcome
+-- what the Rust did: a draw, or the number at which it stopped
+abbrev pub Said : Type 0
+Said = Result Draw ℕ
+
+-- that as an outcome
 abbrev pub said : Said → Outcome ℕ
-said (Drew d) = told d
-said (Stopped n) = refused n
+said (Ok d) = told d
+said (Err n) = refused n
 
 -- the same count and words used, or the same refusal
 abbrev pub same : Outcome ℕ → Outcome ℕ → Bool

@@ -2,22 +2,21 @@
 #![tactic(auto)]
 
 ghost use Rattle.std.specs.Prelude.{◌≡◌};
-ghost use Rattle.words.specs.Paper.{paper, told};
-ghost use Rattle.judge.specs.Judging.{rust_did, same, not_taken, alike, outside_tray, is_outside, by_refusal, apart, judged, mean_judged, as_marked};
+ghost use Rattle.words.specs.Paper.{paper};
+ghost use Rattle.judge.specs.Judging.{rust_did, same, alike, outside_tray, is_outside, apart, judged, mean_judged, as_marked};
 ghost use Rattle.judge.specs.Judging as rules;
 
-use kinds::{Request, parts_of};
-use words::{Answer, Draw, number};
+use kinds::Request;
+use words::{Answer, Draw, Refusal};
 
-// What the Rust did: it drew, or, where a draw here is refused by this number, it stopped or chose a branch that is not taken.
-#[derive(Clone, Copy)]
-pub enum Said {
-    Drew(Draw),
-    Stopped { number: u32 },
-}
+// What the Rust did. `Ok` is its draw. `Err` says that it left no draw to compare with, since it stopped or chose a branch that is not taken here; the
+// number is that of the refusal that a draw here has to give then. (A number and no `Refusal`: a case may name any act, and one that stands for
+// nothing is 0, which is no refusal's number.)
+pub type Said = Result<Draw, u32>;
 
-// What comes of comparing: the same answer, a difference that an entry of docs/DIFFERENCES.md lists, or one that none does.
-#[derive(Clone, Copy)]
+// What comes of comparing: the same answer, a difference that an entry of docs/DIFFERENCES.md lists, or one that none does. (Entries are numbers:
+// that page's own, by which cases name them.)
+#[derive(Clone, Copy, PartialEq, Eq)]
 pub enum Verdict {
     Agrees,
     Listed { entry: u64 },
@@ -25,23 +24,27 @@ pub enum Verdict {
 }
 
 // What a case says that the Rust did, by its number; oracle/README.md has the numbers.
+#[tactic(auto, unfolding(crate::specs::Judging::rust_did))]
 pub fn rust_did(act: u64, count: u64, used: usize) -> Said
     ensures { rules.said result ≡ rust_did act count used }
 {
-    match act {
-        0 => Said::Drew(Draw { count, used }),
-        1 => Said::Stopped { number: 10 },
-        2 => Said::Stopped { number: 3 },
-        3 => Said::Stopped { number: 4 },
-        4 => Said::Stopped { number: 2 },
-        5 => Said::Stopped { number: 8 },
-        6 => Said::Stopped { number: 6 },
-        7 => Said::Stopped { number: 9 },
-        _ => Said::Stopped { number: 0 },
-    }
+    let refusal = match act {
+        0 => return Ok(Draw { count, used }),
+        1 => Refusal::Exhausted,
+        2 => Refusal::ProbabilityTooLarge,
+        3 => Refusal::SampleSizeTooLarge,
+        4 => Refusal::PopulationTooLarge,
+        5 => Refusal::InvalidProbability,
+        6 => Refusal::ModeTooHigh,
+        7 => Refusal::TooRare,
+        // no refusal has the number 0
+        _ => return Err(0),
+    };
+    Err(u32::from(refusal))
 }
 
 // Compares a draw here with the Rust's.
+#[tactic(auto, unfolding(crate::specs::Judging::judged))]
 pub fn judge(request: Request, here: Answer, rust: Said) -> Verdict
     ensures { result ≡ judged request (paper here) (rules.said rust) }
 {
@@ -52,31 +55,20 @@ pub fn judge(request: Request, here: Answer, rust: Said) -> Verdict
     }
 }
 
-// Holds a verdict against the entry that the case names.
+// Holds a verdict against the entry that the case names. (0 and no Option: it is a case file's word for no entry.)
 pub fn as_marked(entry: u64, verdict: Verdict) -> Verdict
     ensures { result ≡ as_marked entry verdict }
 {
     match verdict {
-        Verdict::Agrees => {
-            if entry == 0 {
-                Verdict::Agrees
-            } else {
-                Verdict::Differs
-            }
-        }
-        Verdict::Listed { entry: found } => {
-            if entry == found {
-                Verdict::Listed { entry: found }
-            } else {
-                Verdict::Differs
-            }
-        }
-        Verdict::Differs => Verdict::Differs,
+        Verdict::Agrees if entry == 0 => Verdict::Agrees,
+        Verdict::Listed { entry: found } if entry == found => verdict,
+        _ => Verdict::Differs,
     }
 }
 
 // Compares the draw of a mean in quarters with the Rust's of the same mean, whose threshold is its platform's: with that threshold too the mean
 // is drawn here, and has to be drawn as the Rust did.
+#[tactic(auto, unfolding(crate::specs::Judging::mean_judged))]
 pub fn judge_mean(here: Answer, with_its_threshold: Answer, rust: Said) -> Verdict
     ensures { result ≡ mean_judged (paper here) (paper with_its_threshold) (rules.said rust) }
 {
@@ -93,23 +85,7 @@ pub fn judge_mean(here: Answer, with_its_threshold: Answer, rust: Said) -> Verdi
 pub fn is_same(here: Answer, rust: Said) -> bool
     ensures { result ≡ same (paper here) (rules.said rust) }
 {
-    match here {
-        Answer::Drawn(drawn) => match rust {
-            Said::Drew(drew) => is_same_draw(drawn, drew),
-            Said::Stopped { number: _ } => false,
-        },
-        Answer::Refused(refusal) => match rust {
-            Said::Drew(_) => false,
-            Said::Stopped { number: stopped } => number(refusal) == stopped,
-        },
-    }
-}
-
-// The same count, from as many words.
-fn is_same_draw(drawn: Draw, drew: Draw) -> bool
-    ensures { result ≡ same (told drawn) (told drew) }
-{
-    drawn.count == drew.count && drawn.used == drew.used
+    here.map_err(u32::from) == rust
 }
 
 // Answers that are the same agree, but for a refusal in the place of a draw of the Rust's that is not taken.
@@ -117,48 +93,22 @@ fn judge_same(here: Answer) -> Verdict
     ensures { result ≡ alike (paper here) }
 {
     match here {
-        Answer::Drawn(_) => Verdict::Agrees,
-        Answer::Refused(refusal) => by_branch(number(refusal)),
-    }
-}
-
-// The refusals that stand where the Rust draws by a branch that is not taken.
-fn by_branch(refusal: u32) -> Verdict
-    ensures { result ≡ not_taken refusal }
-{
-    match refusal {
-        6 => Verdict::Listed { entry: 10 },
-        9 => Verdict::Listed { entry: 4 },
+        Err(Refusal::ModeTooHigh) => Verdict::Listed { entry: 10 },
+        Err(Refusal::TooRare) => Verdict::Listed { entry: 4 },
         _ => Verdict::Agrees,
     }
 }
 
-// Which entry lists answers that aren't the same.
+// Which entry lists answers that aren't the same: the Rust has neither of the two refusals, and draws what is outside a tray's support.
 fn set_apart(request: Request, here: Answer, rust: Said) -> Verdict
     ensures { result ≡ apart request (paper here) (rules.said rust) }
 {
-    match here {
-        Answer::Refused(refusal) => by_refusal(number(refusal)),
-        Answer::Drawn(drawn) => match rust {
-            Said::Stopped { number: _ } => Verdict::Differs,
-            Said::Drew(drew) => {
-                if is_outside(request, drew.count) && drawn.used == drew.used {
-                    Verdict::Listed { entry: 1 }
-                } else {
-                    Verdict::Differs
-                }
-            }
-        },
-    }
-}
-
-// The refusals that the Rust doesn't have.
-fn by_refusal(refusal: u32) -> Verdict
-    ensures { result ≡ by_refusal refusal }
-{
-    match refusal {
-        7 => Verdict::Listed { entry: 5 },
-        5 => Verdict::Listed { entry: 9 },
+    match (here, rust) {
+        (Err(Refusal::ThresholdOutside), _) => Verdict::Listed { entry: 5 },
+        (Err(Refusal::CapExceeded), _) => Verdict::Listed { entry: 9 },
+        (Ok(drawn), Ok(drew)) if is_outside(request, drew.count) && drawn.used == drew.used => {
+            Verdict::Listed { entry: 1 }
+        }
         _ => Verdict::Differs,
     }
 }
@@ -167,25 +117,19 @@ fn by_refusal(refusal: u32) -> Verdict
 fn is_outside(request: Request, count: u64) -> bool
     ensures { result ≡ is_outside request count }
 {
-    let parts = parts_of(request);
-    if parts.kind == 1 {
-        return outside_support(parts.first, parts.second, parts.third, count);
+    match request {
+        Request::Hypergeometric {
+            total,
+            marked,
+            sample,
+        } => outside_support(total, marked, sample, count),
+        _ => false,
     }
-    false
 }
 
 // Neither more than the sample or the marked, nor so few that the sample would have more unmarked than there are.
 fn outside_support(total: u64, marked: u64, sample: u64, count: u64) -> bool
     ensures { result ≡ outside_tray total marked sample count }
 {
-    if count > sample {
-        return true;
-    }
-    if count > marked {
-        return true;
-    }
-    if marked > total {
-        return true;
-    }
-    sample - count > total - marked
+    count > sample || count > marked || marked > total || sample - count > total - marked
 }

@@ -1,22 +1,22 @@
 -- Laws of requests: each is read back from its kind's number and its parameters, and two are the same exactly where these are. Assumes nothing.
 use mathlib.Core.Path.{◌≡◌, refl, sym, ap, ◌∙◌}
-use mathlib.Core.Bool.{true, ◌&&◌, and-eq-true_iff}
+use mathlib.Core.Bool.{true}
 use mathlib.Core.Logic.{◌↔◌}
 use mathlib.Core.List.{List, [], ◌∷◌}
 use mathlib.Core.Option.{Option, none, some, map}
 use Prim.Native.Nat.{ℕ, ◌+◌, ◌*◌, ◌^◌, ◌≤◌, ◌<◌}
 use native.Mathlib.Omega.{arith}
-use lib.Dec.{eqb}
 use lib.ListN.{length, get_or, take}
 use lib.Seq.{length-take-le}
 use borrow.Author.Rules.{rules}
-use borrow.Author.Tests.{eq-eqb, eqb-true}
+use Rattle.std.proofs.lemmas.Bool.Decides.{nat_tests}
 use Rattle.kinds.specs.declared.Parts.{Parts}
 use Rattle.kinds.specs.declared.Request.{Request}
-use Rattle.kinds.specs.declared.Row.TheVariants.{Of, Unknown}
+use Rattle.std.specs.Prelude.{None, Some}
+use Rattle.kinds.specs.declared.Row.{Row}
 use Rattle.kinds.specs.declared.Request.TheVariants.{Hypergeometric, Poisson, Geometric, StandardGeometric}
 use Rattle.kinds.specs.Kinds.{fixed_length, Kind, table, numbered, kind_of, length_in, parameters_in, request_of, parts_of, kind_number, three, parameters_of, length_of, same_parts, same_request}
-use Rattle.kinds.specs.Inner.{Alike, row, row_of}
+use Rattle.kinds.specs.Inner.{row, row_of, Alike}
 use Rattle.kinds.proofs.Table.{row_none, Each, found, Listed, listed, by_kind, shape_length, known}
 
 -- a request is the one of its kind and parameters: a line a kind
@@ -142,10 +142,10 @@ known_request k ps h =
     (x.0.makes (get_or ps 0 0) (get_or ps 1 0) (get_or ps 2 0), rw x.1)
 
 -- the table's row says the same
-pub row_asks : (k : ℕ) (ps : List ℕ) (l n : ℕ) (q : Request) → Of l n q ≡ row_of k (get_or ps 0 0) (get_or ps 1 0) (get_or ps 2 0) → request_of k ps ≡ some q
+pub row_asks : (k : ℕ) (ps : List ℕ) (w : Row) → Some w ≡ row_of k (get_or ps 0 0) (get_or ps 1 0) (get_or ps 2 0) → request_of k ps ≡ some w.request
 unfolding request_of
-row_asks k ps l n q =
-    by_kind (λ o. Of l n q ≡ row o (get_or ps 0 0) (get_or ps 1 0) (get_or ps 2 0) → map (λ (x : Kind). x.makes (get_or ps 0 0) (get_or ps 1 0) (get_or ps 2 0)) o ≡ some q)
+row_asks k ps w =
+    by_kind (λ o. Some w ≡ row o (get_or ps 0 0) (get_or ps 1 0) (get_or ps 2 0) → map (λ (x : Kind). x.makes (get_or ps 0 0) (get_or ps 1 0) (get_or ps 2 0)) o ≡ some w.request)
     k (λ e. let z : ◌≡◌ {A = ℕ} 0 1 = cc in absurd (omega arith)) (λ x _ _ e. cc)
 
 -- nothing is asked for exactly where the number is no kind's
@@ -157,7 +157,7 @@ asks_nothing k ps = (go (kind_of k), λ e. rw e)
     go none e = refl
     go (some x) e = let z : ◌≡◌ {A = ℕ} 0 1 = cc in absurd (omega arith)
 
-pub row_asks_none : (k : ℕ) (ps : List ℕ) → Unknown ≡ row_of k (get_or ps 0 0) (get_or ps 1 0) (get_or ps 2 0) → request_of k ps ≡ none
+pub row_asks_none : (k : ℕ) (ps : List ℕ) → None ≡ row_of k (get_or ps 0 0) (get_or ps 1 0) (get_or ps 2 0) → request_of k ps ≡ none
 row_asks_none k ps e = (asks_nothing k ps).1 (row_none (kind_of k) (get_or ps 0 0) (get_or ps 1 0) (get_or ps 2 0) e)
 
 -- ---- the same request
@@ -167,22 +167,13 @@ pub alike_equal : (p q : Parts) → Alike p q → p ≡ q
 alike_equal p q a = λ i. record { kind = a.kind i; first = a.first i; second = a.second i; third = a.third i }
 
 same_self_parts : (p : Parts) → same_parts p p ≡ true
-same_self_parts p =
-    rw (eq-eqb p.kind p.kind refl, eq-eqb p.first p.first refl, eq-eqb p.second p.second refl, eq-eqb p.third p.third refl)
+same_self_parts p = grind (arith, nat_tests)
 
 -- parts that are the same are equal
 same_parts_equal : (p q : Parts) → same_parts p q ≡ true → p ≡ q
 same_parts_equal p q e =
-    let t = (and-eq-true_iff (eqb p.kind q.kind && eqb p.first q.first && eqb p.second q.second) (eqb p.third q.third)).0 e in
-    let u = (and-eq-true_iff (eqb p.kind q.kind && eqb p.first q.first) (eqb p.second q.second)).0 t.0 in
-    let v = (and-eq-true_iff (eqb p.kind q.kind) (eqb p.first q.first)).0 u.0 in
     alike_equal p q
-    (record {
-      kind = eqb-true p.kind q.kind v.0;
-      first = eqb-true p.first q.first v.1;
-      second = eqb-true p.second q.second u.1;
-      third = eqb-true p.third q.third t.1;
-    })
+    (record { kind = grind (arith, nat_tests); first = grind (arith, nat_tests); second = grind (arith, nat_tests); third = grind (arith, nat_tests) })
 
 -- a request is the same as itself
 pub same_self : (r : Request) → same_request r r ≡ true

@@ -8,20 +8,20 @@ use native.Mathlib.Omega.{arith}
 use lib.Dec.{eqb, ltb, leb}
 use borrow.Author.Rules.{rules}
 use borrow.Author.Tests.{ne_eqb, eqb-true, ltb-true, leb-true}
-use Rattle.kinds.specs.declared.Request.{Request}
-use Rattle.kinds.specs.declared.Row.TheVariants.{Of, Unknown}
+use Rattle.std.specs.Prelude.{None, Some}
+use Rattle.kinds.specs.declared.Row.{Row}
 use Rattle.kinds.specs.Kinds.{fixed_length, Kind, table, numbered, kind_of, length_in, parameters_in}
 use Rattle.kinds.specs.Inner.{row, row_of}
 
 -- ---- what a row tells
 
 -- the length and the parameters of the kind, and its request
-pub row_tells : (o : Option Kind) (a b c l n : ℕ) (q : Request) → Of l n q ≡ row o a b c → (l ≡ length_in o) × (n ≡ parameters_in o)
-row_tells none a b c l n q e = let z : ◌≡◌ {A = ℕ} 0 1 = cc in absurd (omega arith)
-row_tells (some x) a b c l n q e = (cc, cc)
+pub row_tells : (o : Option Kind) (a b c : ℕ) (w : Row) → Some w ≡ row o a b c → (w.length ≡ length_in o) × (w.parameters ≡ parameters_in o)
+row_tells none a b c w e = let z : ◌≡◌ {A = ℕ} 0 1 = cc in absurd (omega arith)
+row_tells (some x) a b c w e = (cc, cc)
 
 -- or that there is no kind
-pub row_none : (o : Option Kind) (a b c : ℕ) → Unknown ≡ row o a b c → o ≡ none
+pub row_none : (o : Option Kind) (a b c : ℕ) → None ≡ row o a b c → o ≡ none
 row_none none a b c e = refl
 row_none (some x) a b c e = let z : ◌≡◌ {A = ℕ} 0 1 = cc in absurd (omega arith)
 
@@ -37,7 +37,7 @@ unfolding numbered
 unnumbered k [] h = refl
 unnumbered k (x ∷ xs) h = rw (ne_eqb k x.number h.0) (unnumbered k xs h.1)
 
-pub row_unlisted : (k a b c : ℕ) → Each (λ x. k ≡ x.number → ⊥) table → Unknown ≡ row_of k a b c
+pub row_unlisted : (k a b c : ℕ) → Each (λ x. k ≡ x.number → ⊥) table → None ≡ row_of k a b c
 unfolding kind_of
 row_unlisted k a b c h = rw (unnumbered k table h)
 

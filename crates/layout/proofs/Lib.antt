@@ -3,3 +3,4 @@ pub mod Positions
 pub mod Soundness
 pub mod Walking
 pub mod Changing
+pub mod Following

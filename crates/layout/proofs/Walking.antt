@@ -7,16 +7,16 @@ use Prim.Native.Nat.{ℕ, suc, ◌+◌, ◌-◌, ◌^◌, ◌<◌, ◌≤◌}
 use native.Mathlib.Nat.{zero-add}
 use native.Mathlib.Numerals.{add-one}
 use native.Mathlib.Omega.{arith}
-use lib.ListN.{length, drop, length-drop}
+use lib.ListN.{length, get_or, drop, length-drop}
 use lib.Seq.{drop-drop}
 use borrow.Author.Tests.{lt-ltb, le-ltb, le-leb, lt-leb, eq-eqb, ne_eqb}
 use Rattle.bytes_le.specs.LittleEndian.{spelled}
-use Rattle.bytes_le.specs.Zeros.{all_zero}
 use Rattle.bytes_le.proofs.Numbers.{Bytes, bytes_drop, spelled_lt}
+use Rattle.std.proofs.Common.{Fits, w8}
 use Rattle.layout.specs.declared.Head.{Head}
 use Rattle.layout.specs.declared.Head.TheVariants.{End, Damage, Next}
-use Rattle.layout.specs.declared.Walked.{Walked}
-use Rattle.layout.specs.declared.Walked.TheVariants.{Damaged, Sound}
+use Rattle.std.specs.Prelude.{None, Some}
+use Rattle.std.specs.Prelude.{Option as RustOption}
 use Rattle.kinds.specs.declared.Request.{Request}
 use Rattle.kinds.specs.Kinds.{fixed_length, kind_of, length_in, length_of}
 use Rattle.kinds.proofs.Table.{shape_length}
@@ -85,23 +85,18 @@ module _ (b : List ℕ) (at s p left n : ℕ) (el : left ≡ length b - at) (en 
           head_found v =
               rw (← is_left, le-ltb left 2 h, ← en, ne_eqb n 0 z, is_kind, ← e, eq-eqb n m f, le-leb n left o, is_serial, eq-eqb serial s w, is_place, eq-eqb place p v)
 
--- ---- past the last entry
-
-pub closed_over : (t p : ℕ) (l : List ℕ) (x : Walked) → t < p → Damaged ≡ cond (is_closed t p l) x Damaged
-closed_over t p l x h = rw (lt-leb p t h)
-
-pub closed_by : (t p : ℕ) (l : List ℕ) (z : Bool) (x : Walked) → p ≤ t → z ≡ all_zero l → cond z x Damaged ≡ cond (is_closed t p l) x Damaged
-closed_by t p l z x h e = rw (le-leb p t h, e)
+-- which way `head` goes, for `grind`
+pub ruleset heads = (head_short, head_zero, head_over, head_tiny, head_other, head_serial, head_place, head_found)
 
 -- ---- the walk, from an entry on
 
 -- how a book stands with the entries es after n others that end at i and at the place p
-abbrev onward : ℕ → ℕ → ℕ → Option (List Entry) → Walked
-onward n i p none = Damaged
-onward n i p (some es) = Sound (stands (n + length es) (i + length_all es) (p + used_all es))
+abbrev onward : ℕ → ℕ → ℕ → Option (List Entry) → RustOption Standing
+onward n i p none = None
+onward n i p (some es) = Some (stands (n + length es) (i + length_all es) (p + used_all es))
 
 -- what is left to tell: after n entries that end at `at` and at the place p
-abbrev pub rest : ℕ → List ℕ → ℕ → ℕ → ℕ → Walked
+abbrev pub rest : ℕ → List ℕ → ℕ → ℕ → ℕ → RustOption Standing
 rest t b at n p = onward n at p (decode_from (suc (length b - n)) t (n + 1) p (drop at b))
 
 pub walk_start : (t : ℕ) (b : List ℕ) → rest t b 0 0 0 ≡ walked t b
@@ -110,7 +105,7 @@ walk_start t b = let e : length b - 0 ≡ length b = omega arith in rw e (go (de
   where
     go : (o : Option (List Entry)) → onward 0 0 0 o ≡ telling o
     go none = refl
-    go (some es) = λ i. Sound (stands (zero-add (length es) i) (zero-add (length_all es) i) (zero-add (used_all es) i))
+    go (some es) = λ i. Some (stands (zero-add (length es) i) (zero-add (length_all es) i) (zero-add (used_all es) i))
 
 onward_more : (n at p : ℕ) (e : Entry) (o : Option (List Entry)) → onward n at p (map (λ (es : List Entry). e ∷ es) o) ≡ onward (n + 1) (at + length_of e.request) (p + e.used) o
 unfolding length_all used_all
@@ -119,32 +114,32 @@ onward_more n at p e (some es) =
     let a : n + suc (length es) ≡ n + 1 + length es = omega arith in
     let b : at + (length_of e.request + length_all es) ≡ at + length_of e.request + length_all es = omega arith in
     let c : p + (e.used + used_all es) ≡ p + e.used + used_all es = omega arith in
-    λ i. Sound (stands (a i) (b i) (c i))
+    λ i. Some (stands (a i) (b i) (c i))
 
-onward_end : (n at p : ℕ) (d : Bool) → onward n at p (cond d (some []) none) ≡ cond d (Sound (stands n at p)) Damaged
+onward_end : (n at p : ℕ) (d : Bool) → onward n at p (cond d (some []) none) ≡ cond d (Some (stands n at p)) None
 unfolding length_all used_all
 onward_end n at p true =
     let a : n + 0 ≡ n = omega arith in
     let b : at + 0 ≡ at = omega arith in
     let c : p + 0 ≡ p = omega arith in
-    λ i. Sound (stands (a i) (b i) (c i))
+    λ i. Some (stands (a i) (b i) (c i))
 onward_end n at p false = refl
 
 module _ (t : ℕ) (b : List ℕ) (at n p : ℕ) where
-  rest_end : End ≡ head (n + 1) p (drop at b) → rest t b at n p ≡ cond (is_closed t p (drop at b)) (Sound (stands n at p)) Damaged
+  rest_end : End ≡ head (n + 1) p (drop at b) → rest t b at n p ≡ cond (is_closed t p (drop at b)) (Some (stands n at p)) None
   unfolding decode_from
   rest_end h = rw (← h) (onward_end n at p (is_closed t p (drop at b)))
 
-  rest_damage : Damage ≡ head (n + 1) p (drop at b) → rest t b at n p ≡ Damaged
+  rest_damage : Damage ≡ head (n + 1) p (drop at b) → rest t b at n p ≡ None
   unfolding decode_from
   rest_damage h = rw (← h)
 
   -- so what was answered there is what the whole walk tells, where it is what is left to tell
   module _ (left : rest t b at n p ≡ walked t b) where
-    pub walk_ended : (x : Head) → x ≡ End → x ≡ head (n + 1) p (drop at b) → (r : Walked) → r ≡ cond (is_closed t p (drop at b)) (Sound (stands n at p)) Damaged → r ≡ walked t b
+    pub walk_ended : (x : Head) → x ≡ End → x ≡ head (n + 1) p (drop at b) → (r : RustOption Standing) → r ≡ cond (is_closed t p (drop at b)) (Some (stands n at p)) None → r ≡ walked t b
     walk_ended x is h r e = e ∙ sym (rest_end (sym is ∙ h)) ∙ left
 
-    pub walk_damaged : (x : Head) → x ≡ Damage → x ≡ head (n + 1) p (drop at b) → Damaged ≡ walked t b
+    pub walk_damaged : (x : Head) → x ≡ Damage → x ≡ head (n + 1) p (drop at b) → None ≡ walked t b
     walk_damaged x is h = sym (rest_damage (sym is ∙ h)) ∙ left
 
   -- the walk goes on after an entry
@@ -186,6 +181,27 @@ module _ (t : ℕ) (b : List ℕ) (at n p : ℕ) where
           one_turn
           ∙ ap₂ (λ (k : ℕ) (d : List ℕ). onward (n + 1) (at + x) (p + u) (decode_from k t (n + 1 + 1) (p + u) d)) fuel (drop-drop x at b)
 
+-- where an entry was found: it lies within the book, and its place and its used fit 32 bits
+pub record Found (book : List ℕ) (at place : ℕ) : Type 0 where
+  pub least : fixed_length ≤ length_at book at
+  pub inside : length_at book at ≤ length book - at
+  pub low : place < 2 ^ 32
+  pub few : used_at book at < 2 ^ 32
+
+pub found : (book : List ℕ) (at entries place : ℕ) → ((i : ℕ) → Fits w8 (get_or book i 0)) → Next ≡ head (entries + 1) place (drop at book) → Found book at place
+found book at entries place fits h =
+    let by : Bytes book = λ i. (fits i).fits in
+    let r = next_room 0 book at entries place h in
+    record {
+      least = r.0;
+      inside = r.1;
+      low = next_place 0 book at entries place h by;
+      few = spelled_lt 4 (drop (at + 12) book) (bytes_drop book (at + 12) by);
+    }
+
+-- the walk's turns and its answers, for `grind`
+pub ruleset turns = (walk_start, walk_ended, walk_damaged, rest_next, found)
+
 -- ---- a turn of the search for an offset
 
 pub offset_next : (b : List ℕ) (at i x : ℕ) → at ≡ offset b i → x ≡ length_at b at → at + x ≡ offset b (i + 1)
@@ -200,18 +216,18 @@ pub record Told (t : ℕ) (b : List ℕ) (st : Standing) : Type 0 where
   pub decoded : decode t b ≡ some entries
   pub stands : st ≡ standing entries
 
-told_nothing : (o : Option (List Entry)) → Damaged ≡ telling o → o ≡ none
+told_nothing : (o : Option (List Entry)) → None ≡ telling o → o ≡ none
 told_nothing none q = refl
 told_nothing (some es) q = let z : ◌≡◌ {A = ℕ} 0 1 = cc in absurd (omega arith)
 
-told_sound : (t : ℕ) (b : List ℕ) (st : Standing) (o : Option (List Entry)) → decode t b ≡ o → Sound st ≡ telling o → Told t b st
+told_sound : (t : ℕ) (b : List ℕ) (st : Standing) (o : Option (List Entry)) → decode t b ≡ o → Some st ≡ telling o → Told t b st
 told_sound t b st none e q = let z : ◌≡◌ {A = ℕ} 0 1 = cc in absurd (omega arith)
 told_sound t b st (some es) e q = record { entries = es; decoded = e; stands = cc }
 
-pub walked_damaged : (t : ℕ) (b : List ℕ) → Damaged ≡ walked t b → decode t b ≡ none
+pub walked_damaged : (t : ℕ) (b : List ℕ) → None ≡ walked t b → decode t b ≡ none
 unfolding walked
 walked_damaged t b q = told_nothing (decode t b) q
 
-pub walked_sound : (t : ℕ) (b : List ℕ) (st : Standing) → Sound st ≡ walked t b → Told t b st
+pub walked_sound : (t : ℕ) (b : List ℕ) (st : Standing) → Some st ≡ walked t b → Told t b st
 unfolding walked
 walked_sound t b st q = told_sound t b st (decode t b) refl q

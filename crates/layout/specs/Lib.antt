@@ -2,3 +2,4 @@ pub mod Book
 pub mod Sound
 pub mod Standing
 pub mod Inner
+pub mod Entries

@@ -7,12 +7,15 @@ ghost use Rattle.layout.specs.Book.{book_too_long, is_closed, head};
 ghost use Rattle.layout.specs.Sound.{offset};
 ghost use Rattle.layout.specs.Inner.{walked, Reaches};
 
+mod entries;
+
 use bytes_le::{all_zero, read_le};
+pub use entries::Entries;
 use entry::{FIXED, KIND, PLACE, SERIAL, USED};
 use kinds::length_by;
 
 // How a book stands: the number of its entries, where they end, and the tape's place after them.
-#[derive(Clone, Copy)]
+#[derive(Clone, Copy, PartialEq, Eq)]
 pub struct Standing {
     pub entries: u64,
     pub end: usize,
@@ -22,22 +25,17 @@ pub struct Standing {
 // The most bytes that a book may have.
 const MOST_BYTES: usize = 65_536;
 
-// What stands at the front of the bytes that are left.
-#[derive(Clone, Copy)]
+// What stands at the front of the bytes that are left: nothing more, what no book has there, or the next entry. (The definition `head` of specs/ has
+// these three cases.)
+#[derive(Clone, Copy, PartialEq, Eq)]
 enum Head {
     End,
     Damage,
     Next,
 }
 
-// What a walk tells of a book: how it stands, or that it is not sound.
-#[derive(Clone, Copy)]
-pub enum Walked {
-    Damaged,
-    Sound(Standing),
-}
-
 // Whether the book has more bytes than a book may have.
+#[tactic(auto, unfolding(crate::specs::Book::book_too_long))]
 pub fn is_too_long(book: &[u8]) -> bool
     ensures { result ≡ book_too_long book.now }
 {
@@ -54,11 +52,13 @@ pub fn next_at(book: &[u8], at: usize) -> usize
 
 // ---- the walk
 
-// What stands at `at`, where this serial and this place are due.
-fn head_at(book: &[u8], at: usize, serial: u64, place: u64) -> Head
-    requires { at ≤ length book.now }
-    ensures { result ≡ head serial place (drop at book.now) }
+// What stands where these entries end: the next serial and their place are due there.
+#[tactic(auto, using(entry::proofs::Entries::kind_small, crate::proofs::Walking::heads))]
+fn head_at(book: &[u8], standing: Standing) -> Head
+    requires { (standing.entries ≤ standing.end) × (standing.end ≤ length book.now) }
+    ensures { result ≡ head (standing.entries + 1) standing.place (drop standing.end book.now) }
 {
+    let at = standing.end;
     let left = book.len() - at;
     if left < 2 {
         return Head::End;
@@ -67,76 +67,61 @@ fn head_at(book: &[u8], at: usize, serial: u64, place: u64) -> Head
     if length == 0 {
         return Head::End;
     }
-    if (left as u64) < length {
-        return Head::Damage;
-    }
     // Every entry has its fixed fields: of a shorter one they could lie outside the book.
-    if length < FIXED as u64 {
+    if (left as u64) < length || length < FIXED as u64 {
         return Head::Damage;
     }
-    if length != length_by(read_le(book, at + KIND, 2) as u16) {
-        return Head::Damage;
-    }
-    if read_le(book, at + SERIAL, 4) != serial {
-        return Head::Damage;
-    }
-    if read_le(book, at + PLACE, 4) != place {
+    if length != length_by(read_le(book, at + KIND, 2) as u16)
+        || read_le(book, at + SERIAL, 4) != standing.entries + 1
+        || read_le(book, at + PLACE, 4) != standing.place as u64
+    {
         return Head::Damage;
     }
     Head::Next
 }
 
-// Past the last entry: the words used have to be on the tape, and every byte 0.
-fn closed(book: &[u8], standing: Standing, words: usize) -> Walked
+// Whether a book may end so: the words used have to be on the tape, and every byte from there on 0.
+fn is_closed(book: &[u8], standing: Standing, words: usize) -> bool
     requires { standing.end ≤ length book.now }
-    ensures { result ≡ cond (is_closed words standing.place (drop standing.end book.now)) (Walked.Sound standing) Walked.Damaged }
+    ensures { result ≡ is_closed words standing.place (drop standing.end book.now) }
 {
-    if words < standing.place {
-        return Walked::Damaged;
-    }
-    if all_zero(book, standing.end) {
-        return Walked::Sound(standing);
-    }
-    Walked::Damaged
+    standing.place <= words && all_zero(book, standing.end)
 }
 
-// Walks the whole book, for a tape of this many words.
-pub fn walk(book: &[u8], words: usize) -> Walked
+// Walks the whole book, for a tape of this many words: how it stands, or nothing where it is not sound. (The book says where it ends: a `for` over
+// the entries would leave an answer to make up past the last serial.)
+#[tactic(auto, using(crate::proofs::Walking::turns))]
+pub fn walk(book: &[u8], words: usize) -> Option<Standing>
     ensures { result ≡ walked words book.now }
 {
-    let mut at: usize = 0;
-    let mut entries: u64 = 0;
-    let mut place: usize = 0;
+    let mut standing = Standing {
+        entries: 0,
+        end: 0,
+        place: 0,
+    };
     loop {
-        let head = head_at(book, at, entries + 1, place as u64);
-        match head {
-            Head::End => {
-                let standing = Standing {
-                    entries,
-                    end: at,
-                    place,
-                };
-                return closed(book, standing, words);
+        match head_at(book, standing) {
+            Head::End => return is_closed(book, standing, words).then_some(standing),
+            Head::Damage => return None,
+            Head::Next => {
+                let at = standing.end;
+                standing.place += read_le(book, at + USED, 4) as usize;
+                standing.end = next_at(book, at);
+                standing.entries += 1;
             }
-            Head::Damage => return Walked::Damaged,
-            Head::Next => {}
         }
-        place += read_le(book, at + USED, 4) as usize;
-        at += read_le(book, at, 2) as usize;
-        entries += 1;
     }
 }
 
-// Where the entry after the first k begins.
+// Where the entry after the first k begins. (Passed by hand: `Entries` would read each of them whole, and give no place.)
+#[tactic(auto, using(crate::proofs::Walking::offset_next), unfolding(crate::specs::Sound::offset))]
 pub fn offset_of(book: &[u8], k: u64) -> usize
     requires { Reaches book.now k }
     ensures { result ≡ offset book.now k }
 {
     let mut at: usize = 0;
-    let mut i: u64 = 0;
-    while i < k {
+    for _ in 0..k {
         at = next_at(book, at);
-        i += 1;
     }
     at
 }

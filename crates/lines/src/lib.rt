@@ -7,7 +7,7 @@ ghost use Rattle.writing.specs.Digits.{decimal};
 ghost use Rattle.writing.specs.Writing.{Writes};
 ghost use Rattle.lines.specs.Lines.{refused_line};
 
-use words::{Refusal, number};
+use words::Refusal;
 use writing::{put_decimal, put_text};
 
 // Writes a number and the byte that ends it, a space or a newline; answers the place after them.
@@ -30,9 +30,10 @@ pub fn put_numbered(out: &mut [u8], at: usize, text: &[u8], n: u64) -> usize
 }
 
 // Writes the line of a refusal.
+#[tactic(auto, unfolding(crate::specs::Lines::refused_line, crate::specs::Lines::line))]
 pub fn put_refused(out: &mut [u8], refusal: Refusal) -> usize
     requires { 32 ≤ length out.old }
     ensures { Writes out.old 0 (refused_line (number_of refusal)) out.new result }
 {
-    put_numbered(out, 0, b"refused ", number(refusal) as u64)
+    put_numbered(out, 0, b"refused ", u64::from(u32::from(refusal)))
 }

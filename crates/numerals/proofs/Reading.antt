@@ -1,24 +1,40 @@
 -- Laws of text as it is read: digits and the number that they spell, text parted by a byte, and decimals. Assumes nothing.
-use mathlib.Core.Path.{◌≡◌, refl}
-use mathlib.Core.Bool.{Bool, true, false, cond, not, ◌&&◌, and-false}
+use Rattle.std.specs.Prelude.{Option, Some, None}
+use mathlib.Core.Path.{◌≡◌, refl, sym, ap, ◌∙◌}
+use mathlib.Core.Bool.{Bool, true, false, cond, not, ◌&&◌, and-false, and-true}
 use mathlib.Core.List.{List, [], ◌∷◌, ◌++◌}
 use mathlib.Core.Logic.{◌⊎◌, inl, inr, ⊎_elim}
 use Prim.Native.Nat.{ℕ, suc, ◌+◌, ◌*◌, ◌-◌, ◌^◌, ◌≤◌, ◌<◌}
-use native.Mathlib.Nat.{le_refl, lt_of_lt_of_le, mul-le-mul_right, add-suc}
+use native.Mathlib.Nat.{le_refl, lt_of_lt_of_le, mul-le-mul_right}
 use native.Mathlib.Numerals.{add-one}
 use native.Mathlib.Omega.{arith}
-use lib.Dec.{T, leb, eqb, leb→le, eqb→eq}
+use lib.Dec.{leb, eqb, leb→le}
 use lib.Ieee.Fits.{and_l, and_r}
 use denote.Floats.{passes, is_true}
-use lib.ListN.{length, get_or, take, drop, length-drop, drop_of_length-le}
-use lib.Seq.{take_all, drop-drop, drop-cons}
+use lib.Pointwise.{pointwise}
+use lib.ListN.{length, get_or, take, drop, drop_of_length-le}
+use lib.Seq.{take_all, drop-cons}
 use borrow.Author.Tests.{lt-leb, le-leb, lt-ltb, le-ltb, leb-false, ltb-false, eq-eqb, ne_eqb}
-use Rattle.std.specs.List.{slice_range}
-use Rattle.numerals.specs.declared.Number.TheVariants.{Is, Unread}
+use Rattle.std.specs.Char.{digit_value}
+use Rattle.std.proofs.lemmas.Option.{cond_some}
+use Rattle.std.proofs.lemmas.Bool.{and_cases}
+use Rattle.std.proofs.lemmas.Bool.Decides.{eqb_tells}
+use Rattle.std.proofs.lemmas.Grind.{common_steps}
 use Rattle.numerals.specs.Split.{index_of, up_to, past, has}
 use Rattle.numerals.specs.Digits.{digit_of, are_digits, spells, continued, is_empty, number}
 use Rattle.numerals.specs.Decimal.{point, is_whole, is_decimal, whole_of, places_of, is_short, nearest_bits, decimal_bits, is_hexadecimal, float_bits}
 use Rattle.numerals.specs.Inner.{placed}
+
+-- ---- digits
+
+-- std's value of a digit is what the digit stands for in any base up to 16
+pub stands_for : (x b : ℕ) → b ≤ 16 → digit_value x < b → digit_value x ≡ digit_of x
+unfolding digit_of
+stands_for x b h k = grind (arith, common_steps)
+
+pub stands_for_none : (x b : ℕ) → b ≤ 16 → b ≤ digit_value x → b ≤ digit_of x
+unfolding digit_of
+stands_for_none x b h k = grind (arith, common_steps)
 
 -- ---- the number that digits spell
 
@@ -44,12 +60,12 @@ module _ (b v m x : ℕ) (xs : List ℕ) where
   more_digits h = rw (lt-ltb (digit_of x) b h)
 
   -- a byte that is no digit ends it
-  no_digit : b ≤ digit_of x → continued b v m (x ∷ xs) ≡ Unread
+  no_digit : b ≤ digit_of x → continued b v m (x ∷ xs) ≡ None
   unfolding continued are_digits
   no_digit h = rw (le-ltb (digit_of x) b h)
 
   -- past m no digit leads back
-  too_large : 0 < b → m < b * v + digit_of x → continued b v m (x ∷ xs) ≡ Unread
+  too_large : 0 < b → m < b * v + digit_of x → continued b v m (x ∷ xs) ≡ None
   unfolding continued spells
   too_large pos h =
       let over : m < spells b (b * v + digit_of x) xs = lt_of_lt_of_le h (spells_rise b (b * v + digit_of x) xs pos) in
@@ -58,20 +74,26 @@ module _ (b v m x : ℕ) (xs : List ℕ) where
 -- the digits from i on go on from those of v
 module _ (l : List ℕ) (b m v i : ℕ) where
   -- at the end v is the number
-  pub go_end : length l ≤ i → v ≤ m → continued b v m (drop i l) ≡ Is v
+  pub go_end : length l ≤ i → v ≤ m → continued b v m (drop i l) ≡ Some v
   unfolding continued are_digits spells
   go_end h k = rw (drop_of_length-le l h, le-leb v m k)
 
-  -- before it, with n for the byte at i: the three ways
-  module _ (n : ℕ) (h : i < length l) (e : n ≡ digit_of (get_or l i 0)) where
-    pub go_more : n < b → continued b v m (drop i l) ≡ continued b (b * v + n) m (drop (i + 1) l)
-    go_more k = rw (e, add-one, drop-cons l i 0 h) (more_digits b v m (get_or l i 0) (drop (suc i) l) (rw e at k))
+  -- before it, with x for the byte at i: the three ways
+  module _ (x : ℕ) (h : i < length l) (e : x ≡ get_or l i 0) (base : b ≤ 16) where
+    pub go_more : (w d : ℕ) → digit_value x < b → d ≡ digit_value x → w ≡ v * b + d
+        → continued b v m (drop i l) ≡ continued b w m (drop (i + 1) l)
+    go_more w d k f g =
+        let s : d ≡ digit_of x = f ∙ stands_for x b base k in
+        let n : w ≡ b * v + digit_of (get_or l i 0) = rw (← e, ← s) (omega arith) in
+        rw (n, add-one, drop-cons l i 0 h) (more_digits b v m (get_or l i 0) (drop (suc i) l) (rw (← e, ← s, f) k))
 
-    pub go_none : b ≤ n → continued b v m (drop i l) ≡ Unread
-    go_none k = rw (drop-cons l i 0 h) (no_digit b v m (get_or l i 0) (drop (suc i) l) (rw e at k))
+    pub go_none : (digit_value x < b → ⊥) → continued b v m (drop i l) ≡ None
+    go_none k = rw (drop-cons l i 0 h) (no_digit b v m (get_or l i 0) (drop (suc i) l) (rw (← e) (stands_for_none x b base (omega arith))))
 
-    pub go_over : 0 < b → m < b * v + n → continued b v m (drop i l) ≡ Unread
-    go_over pos k = rw (drop-cons l i 0 h) (too_large b v m (get_or l i 0) (drop (suc i) l) pos (rw e at k))
+    pub go_over : (d : ℕ) → 0 < b → digit_value x < b → d ≡ digit_value x → m < v * b + d → continued b v m (drop i l) ≡ None
+    go_over d pos k f g =
+        let s : d ≡ digit_of x = f ∙ stands_for x b base k in
+        rw (drop-cons l i 0 h) (too_large b v m (get_or l i 0) (drop (suc i) l) pos (rw (← e, ← s) (omega arith)))
 
 -- ---- what was read
 
@@ -83,23 +105,14 @@ not_empty : (l : List ℕ) → (length l ≡ 0 → ⊥) → is_empty l ≡ false
 not_empty [] h = absurd (h refl)
 not_empty (x ∷ xs) h = refl
 
-one_fails : (a b : Bool) → (a && b) ≡ false → (a ≡ false) ⊎ (b ≡ false)
-one_fails true b e = inr e
-one_fails false b e = inl refl
-
--- where a number was given, the test passed
-was_read : (t : Bool) (x v : ℕ) → cond t (Is x) Unread ≡ Is v → T t × (x ≡ v)
-was_read true x v e = (tt, cc)
-was_read false x v e = let z : ◌≡◌ {A = ℕ} 0 1 = cc in absurd (omega arith)
-
 -- where none was, it failed
-was_unread : (t : Bool) (x : ℕ) → cond t (Is x) Unread ≡ Unread → t ≡ false
+was_unread : (t : Bool) (x : ℕ) → cond t (Some x) None ≡ None → t ≡ false
 was_unread true x e = let z : ◌≡◌ {A = ℕ} 0 1 = cc in absurd (omega arith)
 was_unread false x e = refl
 
 module _ (b m : ℕ) (l : List ℕ) where
   -- no text is no number
-  pub number_empty : length l ≡ 0 → number b m l ≡ Unread
+  pub number_empty : length l ≡ 0 → number b m l ≡ None
   unfolding number
   number_empty h = rw (is_empty_lem l h)
 
@@ -109,75 +122,52 @@ module _ (b m : ℕ) (l : List ℕ) where
   number_digits h = rw (not_empty l h)
 
   -- what was read is digits that spell the number, and it is at most m
-  pub continued_is : (w v : ℕ) → continued b w m l ≡ Is v → (are_digits b l ≡ true) × (spells b w l ≡ v) × (v ≤ m)
+  pub continued_is : (w v : ℕ) → continued b w m l ≡ Some v → (are_digits b l ≡ true) × (spells b w l ≡ v) × (v ≤ m)
   unfolding continued
   continued_is w v e =
       let small = leb (spells b w l) m in
-      let t = was_read (are_digits b l && small) (spells b w l) v e in
-      (is_true (are_digits b l) (and_l (are_digits b l) small t.0), t.1, rw t.1 at (leb→le (spells b w l) m (and_r (are_digits b l) small t.0)))
+      let t = cond_some (are_digits b l && small) (spells b w l) v e in
+      let p = passes (are_digits b l && small) t.0 in
+      (is_true (are_digits b l) (and_l (are_digits b l) small p), t.1, rw t.1 at (leb→le (spells b w l) m (and_r (are_digits b l) small p)))
 
   -- what was not has a byte that is no digit, or spells a number above m
-  continued_unread : (w : ℕ) → continued b w m l ≡ Unread → (are_digits b l ≡ false) ⊎ (m < spells b w l)
+  continued_unread : (w : ℕ) → continued b w m l ≡ None → (are_digits b l ≡ false) ⊎ (m < spells b w l)
   unfolding continued
   continued_unread w e =
       ⊎_elim (λ d. inl d) (λ d. inr (leb-false (spells b w l) m d))
-      (one_fails (are_digits b l) (leb (spells b w l) m) (was_unread (are_digits b l && leb (spells b w l) m) (spells b w l) e))
+      (and_cases (are_digits b l) (leb (spells b w l) m) (was_unread (are_digits b l && leb (spells b w l) m) (spells b w l) e))
 
 -- a number that was read had digits, which go on from 0
-number_is : (b m v : ℕ) (l : List ℕ) → number b m l ≡ Is v → (is_empty l ≡ false) × (continued b 0 m l ≡ Is v)
+number_is : (b m v : ℕ) (l : List ℕ) → number b m l ≡ Some v → (is_empty l ≡ false) × (continued b 0 m l ≡ Some v)
 unfolding number
 number_is b m v [] e = let z : ◌≡◌ {A = ℕ} 0 1 = cc in absurd (omega arith)
 number_is b m v (x ∷ xs) e = (refl, e)
 
 -- text that was not read is empty, or does not go on from 0
-number_unread : (b m : ℕ) (l : List ℕ) → number b m l ≡ Unread → (is_empty l ≡ true) ⊎ (continued b 0 m l ≡ Unread)
+number_unread : (b m : ℕ) (l : List ℕ) → number b m l ≡ None → (is_empty l ≡ true) ⊎ (continued b 0 m l ≡ None)
 unfolding number
 number_unread b m [] e = inl refl
 number_unread b m (x ∷ xs) e = inr e
 
 -- a number that was read is at most the most that was allowed
-pub number_within : (b m v : ℕ) (l : List ℕ) → number b m l ≡ Is v → v ≤ m
+pub number_within : (b m v : ℕ) (l : List ℕ) → number b m l ≡ Some v → v ≤ m
 number_within b m v l e = (continued_is b m l 0 v (number_is b m v l e).1).2
 
 -- ---- text parted by a byte
 
--- the slice up to the end is what is left from its start on
-pub slice_rest : (from : ℕ) (l : List ℕ) → slice_range l from (length l) ≡ drop from l
-slice_rest from l = take_all (length l - from) (drop from l) (omega (arith, length-drop from l))
+-- where the first s was looked for, and found or not
+module _ (s : ℕ) (l : List ℕ) (r : Option ℕ) (e : r ≡ cond (has s l) (Some (index_of s l)) None) where
+  pub found_none : r ≡ None → has s l ≡ false
+  found_none h = was_unread (has s l) (index_of s l) (sym e ∙ h)
 
--- the first s from a place on: what stands before it, and what after it
-module _ (s from : ℕ) (l : List ℕ) where
-  pub find_ends : take (index_of s (slice_range l from (length l))) (drop from l) ≡ up_to s (drop from l)
-  unfolding up_to
-  find_ends = rw slice_rest
+  pub found_at : (i : ℕ) → r ≡ Some i → (has s l ≡ true) × (index_of s l ≡ i)
+  found_at i h = cond_some (has s l) (index_of s l) i (sym e ∙ h)
 
-  pub find_past : drop (suc (from + index_of s (slice_range l from (length l)))) l ≡ past s (drop from l)
-  unfolding past
-  find_past = rw (slice_rest, drop-drop, add-suc)
+-- all of it stands before a byte that is not there, and nothing after it
+pub all_before : (s : ℕ) (l : List ℕ) → has s l ≡ false → up_to s l ≡ l
+unfolding has up_to
+all_before s l h = take_all (index_of s l) l (ltb-false (index_of s l) (length l) h)
 
--- ---- a turn of the loop that looks for a byte
-
--- a byte before the first s is passed
-pub find_turn : (s i end : ℕ) (l : List ℕ) → i < end → end ≤ length l → (get_or l i 0 ≡ s → ⊥)
-    → index_of s (slice_range l i end) ≡ suc (index_of s (slice_range l (i + 1) end))
-unfolding index_of
-find_turn s i end l h k e =
-    let n : end - i ≡ suc (end - (i + 1)) = omega arith in
-    rw (n, add-one, drop-cons l i 0 (omega arith), ne_eqb (get_or l i 0) s e) (omega arith)
-
--- the first s is found
-pub find_here : (s i end : ℕ) (l : List ℕ) → i < end → end ≤ length l → get_or l i 0 ≡ s → index_of s (slice_range l i end) ≡ 0
-unfolding index_of
-find_here s i end l h k e =
-    let n : end - i ≡ suc (end - (i + 1)) = omega arith in
-    rw (n, drop-cons l i 0 (omega arith), eq-eqb (get_or l i 0) s e)
-
--- at the end there is none
-pub find_none : (s i end : ℕ) (l : List ℕ) → end ≤ i → index_of s (slice_range l i end) ≡ 0
-unfolding index_of
-find_none s i end l h = let n : end - i ≡ 0 = omega arith in rw n
-
--- nothing stands past a byte that is not there
 no_past : (s : ℕ) (l : List ℕ) → has s l ≡ false → past s l ≡ []
 unfolding has past
 no_past s l h = drop_of_length-le l {i = suc (index_of s l)} (omega (arith, ltb-false (index_of s l) (length l) h))
@@ -193,22 +183,22 @@ not_whole l d = rw d (and-false (not (is_empty l)))
 
 -- the digits l after the point, w before it: the four ways
 module _ (w : ℕ) (l : List ℕ) where
-  pub placed_empty : length l ≡ 0 → placed w l ≡ Unread
+  pub placed_empty : length l ≡ 0 → placed w l ≡ None
   unfolding placed
   placed_empty h = rw (is_empty_lem l h)
 
-  pub placed_long : 15 < length l → placed w l ≡ Unread
+  pub placed_long : 15 < length l → placed w l ≡ None
   unfolding placed
   placed_long h = rw (lt-leb (length l) 15 h, and-false)
 
-  pub placed_unread : continued 10 w most_whole l ≡ Unread → placed w l ≡ Unread
+  pub placed_unread : continued 10 w most_whole l ≡ None → placed w l ≡ None
   unfolding placed
   placed_unread e =
       ⊎_elim (λ d. rw (not_whole l d)) (λ d. rw (le-ltb (spells 10 w l) (10 ^ 15) (omega (arith, d)), and-false, and-false))
       (continued_unread 10 most_whole l w e)
 
-  pub placed_is : (v : ℕ) → (length l ≡ 0 → ⊥) → length l ≤ 15 → continued 10 w most_whole l ≡ Is v
-      → placed w l ≡ Is (nearest_bits v (10 ^ length l))
+  pub placed_is : (v : ℕ) → (length l ≡ 0 → ⊥) → length l ≤ 15 → continued 10 w most_whole l ≡ Some v
+      → placed w l ≡ Some (nearest_bits v (10 ^ length l))
   unfolding placed
   placed_is v h k e =
       let r = continued_is 10 most_whole l w v e in
@@ -221,7 +211,7 @@ module _ (l : List ℕ) where
   whole_rises = rw spells_append (spells_rise 10 (spells 10 0 (up_to point l)) (past point l) (omega arith))
 
   -- no number before the point, no decimal
-  pub decimal_unread : number 10 most_whole (up_to point l) ≡ Unread → decimal_bits l ≡ Unread
+  pub decimal_unread : number 10 most_whole (up_to point l) ≡ None → decimal_bits l ≡ None
   unfolding decimal_bits is_decimal is_short
   decimal_unread e =
       ⊎_elim (λ z. rw z)
@@ -232,7 +222,7 @@ module _ (l : List ℕ) where
       (number_unread 10 most_whole (up_to point l) e)
 
   -- the number before the point is w
-  module _ (w : ℕ) (e : number 10 most_whole (up_to point l) ≡ Is w) where
+  module _ (w : ℕ) (e : number 10 most_whole (up_to point l) ≡ Some w) where
     some : is_empty (up_to point l) ≡ false
     some = (number_is 10 most_whole w (up_to point l) e).0
 
@@ -245,7 +235,7 @@ module _ (l : List ℕ) where
     whole_from = rw (spells_append, front.1)
 
     -- with no point it is the decimal
-    pub decimal_whole : has point l ≡ false → decimal_bits l ≡ Is (nearest_bits w 1)
+    pub decimal_whole : has point l ≡ false → decimal_bits l ≡ Some (nearest_bits w 1)
     unfolding decimal_bits is_decimal is_short places_of spells
     decimal_whole h = rw (some, front.0, h, whole_from, no_past point l h, lt-ltb w (10 ^ 15) (omega (arith, front.2)))
 
@@ -256,17 +246,25 @@ module _ (l : List ℕ) where
 
 -- ---- the bits of a float: in hexadecimal, or by a decimal
 
+-- the first two of 18 bytes or more
+first_two : (l : List ℕ) (a b : ℕ) → 2 ≤ length l → pointwise eqb (take 2 l) (a ∷ b ∷ []) ≡ (eqb (get_or l 0 0) a && eqb (get_or l 1 0) b)
+first_two [] a b h = absurd (omega arith)
+first_two (x ∷ []) a b h = absurd (omega arith)
+first_two (x ∷ y ∷ xs) a b h = ap (λ (t : Bool). eqb x a && t) (and-true (eqb y b))
+
 module _ (l : List ℕ) where
-  pub hexadecimal_length : is_hexadecimal l ≡ true → length l ≡ 18
-  unfolding is_hexadecimal
-  hexadecimal_length h =
-      let rest = eqb (get_or l 0 0) 48 && eqb (get_or l 1 0) 120 in
-      eqb→eq (length l) 18 (and_l (eqb (length l) 18) rest (passes (eqb (length l) 18 && rest) h))
+  -- `0x`, and 16 bytes after it
+  pub float_hexadecimal : pointwise eqb (take 2 l) (48 ∷ 120 ∷ []) ≡ true → length l ≡ 18 → float_bits l ≡ number 16 (2 ^ 64 - 1) (drop 2 l)
+  unfolding float_bits is_hexadecimal
+  float_hexadecimal h n = rw (eq-eqb (length l) 18 n, sym (first_two l 48 120 (omega arith)) ∙ h)
 
-  pub float_hexadecimal : is_hexadecimal l ≡ true → float_bits l ≡ number 16 (2 ^ 64 - 1) (drop 2 l)
-  unfolding float_bits
-  float_hexadecimal h = rw h
+  -- another number of bytes
+  pub float_long : (length l ≡ 18 → ⊥) → float_bits l ≡ decimal_bits l
+  unfolding float_bits is_hexadecimal
+  float_long n = rw (ne_eqb (length l) 18 n)
 
-  pub float_decimal : is_hexadecimal l ≡ false → float_bits l ≡ decimal_bits l
-  unfolding float_bits
-  float_decimal h = rw h
+  -- another beginning
+  pub float_other : pointwise eqb (take 2 l) (48 ∷ 120 ∷ []) ≡ false → float_bits l ≡ decimal_bits l
+  unfolding float_bits is_hexadecimal
+  float_other h =
+      ⊎_elim (λ n. rw (n.0, sym (first_two l 48 120 (omega arith)) ∙ h)) (λ n. float_long n.1) (eqb_tells (length l) 18)

@@ -1,4 +1,5 @@
 -- What is written is read: a number's digits are read as it. Assumes nothing.
+use Rattle.std.specs.Prelude.{Some}
 use mathlib.Core.Path.{◌≡◌, refl, sym}
 use mathlib.Core.Bool.{true, false, ◌&&◌, and_assoc}
 use mathlib.Core.List.{List, [], ◌∷◌, ◌++◌}
@@ -9,7 +10,6 @@ use borrow.Author.Tests.{lt-ltb, le-leb}
 use lib.Dec.{ltb}
 use Rattle.writing.specs.Digits.{decimal_of, decimal}
 use Rattle.writing.proofs.Writing.{by_size}
-use Rattle.numerals.specs.declared.Number.TheVariants.{Is}
 use Rattle.numerals.specs.Digits.{digit_of, are_digits, spells, continued, is_empty, number}
 use Rattle.numerals.proofs.Reading.{spells_append}
 
@@ -36,7 +36,7 @@ record Spelt (n : ℕ) (l : List ℕ) : Type 0 where
   spell : spells 10 0 l ≡ n
 
 -- such a text is read as it
-spelt_read : (n m : ℕ) (l : List ℕ) → n ≤ m → Spelt n l → number 10 m l ≡ Is n
+spelt_read : (n m : ℕ) (l : List ℕ) → n ≤ m → Spelt n l → number 10 m l ≡ Some n
 unfolding number continued
 spelt_read n m l h s = rw (s.some, s.digits, s.spell, le-leb n m h)
 
@@ -63,6 +63,6 @@ spelt_of (suc k) n h =
     rw e at (spelt_next (n / 10) (n % 10) (decimal_of (suc k) (n / 10)) (omega arith) (spelt_of k (n / 10) (omega (arith, pow-suc 10 (suc k))))))
 
 -- what is written is read
-pub decimal_reads : (n m : ℕ) → n < 10 ^ 20 → n ≤ m → number 10 m (decimal n) ≡ Is n
+pub decimal_reads : (n m : ℕ) → n < 10 ^ 20 → n ≤ m → number 10 m (decimal n) ≡ Some n
 unfolding decimal
 decimal_reads n m h g = spelt_read n m (decimal_of 20 n) g (spelt_of 19 n h)

@@ -1,9 +1,7 @@
 -- RULES, 'Lines of pull': a float as text is a decimal, which stands for the nearest binary64, or the 64 bits themselves. Assumes nothing.
-use Rattle.std.specs.Prelude.{ℕ, ◌-◌, ◌^◌, Bool, false, cond, not, ◌&&◌, ◌||◌, List, ◌++◌, eqb, leb, ltb, length, get_or, drop}
+use Rattle.std.specs.Prelude.{ℕ, ◌-◌, ◌^◌, Bool, false, cond, not, ◌&&◌, ◌||◌, List, ◌++◌, eqb, leb, ltb, length, get_or, drop, Option, None, Some}
 use Rattle.std.specs.Float.{binary64}
 use Rattle.std.specs.Float.Ieee.{round, to_bits}
-use Rattle.numerals.specs.declared.Number.{Number}
-use Rattle.numerals.specs.declared.Number.TheVariants.{Is, Unread}
 use Rattle.numerals.specs.Split.{up_to, past, has}
 use Rattle.numerals.specs.Digits.{are_digits, spells, is_empty, number}
 
@@ -36,13 +34,13 @@ unfoldable pub nearest_bits : ℕ → ℕ → ℕ
 nearest_bits a b = to_bits binary64 (round binary64 false a b)
 
 -- the digits as a whole number, divided by a power of ten
-unfoldable pub decimal_bits : List ℕ → Number
-decimal_bits l = cond (is_decimal l && is_short l) (Is (nearest_bits (whole_of l) (10 ^ places_of l))) Unread
+unfoldable pub decimal_bits : List ℕ → Option ℕ
+decimal_bits l = cond (is_decimal l && is_short l) (Some (nearest_bits (whole_of l) (10 ^ places_of l))) None
 
 -- `0x`, and 16 bytes
 unfoldable pub is_hexadecimal : List ℕ → Bool
 is_hexadecimal l = eqb (length l) 18 && (eqb (get_or l 0 0) 48 && eqb (get_or l 1 0) 120)  -- "0x"
 
 -- 16 hexadecimal digits are the bits themselves
-unfoldable pub float_bits : List ℕ → Number
+unfoldable pub float_bits : List ℕ → Option ℕ
 float_bits l = cond (is_hexadecimal l) (number 16 (2 ^ 64 - 1) (drop 2 l)) (decimal_bits l)

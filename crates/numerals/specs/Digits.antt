@@ -1,7 +1,5 @@
 -- RULES, 'Lines of pull': whole numbers as text, in ASCII, as they are read, with leading zeros or without. Assumes nothing.
-use Rattle.std.specs.Prelude.{ℕ, ◌+◌, ◌-◌, ◌*◌, Bool, true, false, cond, ◌&&◌, List, [], ◌∷◌, leb, ltb}
-use Rattle.numerals.specs.declared.Number.{Number}
-use Rattle.numerals.specs.declared.Number.TheVariants.{Is, Unread}
+use Rattle.std.specs.Prelude.{ℕ, ◌+◌, ◌-◌, ◌*◌, Bool, true, false, cond, ◌&&◌, List, [], ◌∷◌, leb, ltb, Option, None, Some}
 
 -- whether a byte lies between two others
 abbrev pub is_within : ℕ → ℕ → ℕ → Bool
@@ -22,13 +20,13 @@ spells b v [] = v
 spells b v (x ∷ xs) = spells b (b * v + digit_of x) xs
 
 -- digits that go on from those of v, the whole number at most m
-unfoldable pub continued : ℕ → ℕ → ℕ → List ℕ → Number
-continued b v m l = cond (are_digits b l && leb (spells b v l) m) (Is (spells b v l)) Unread
+unfoldable pub continued : ℕ → ℕ → ℕ → List ℕ → Option ℕ
+continued b v m l = cond (are_digits b l && leb (spells b v l) m) (Some (spells b v l)) None
 
 abbrev pub is_empty : List ℕ → Bool
 is_empty [] = true
 is_empty (x ∷ xs) = false
 
 -- a number: one digit or more, leading zeros allowed, at most m
-unfoldable pub number : ℕ → ℕ → List ℕ → Number
-number b m l = cond (is_empty l) Unread (continued b 0 m l)
+unfoldable pub number : ℕ → ℕ → List ℕ → Option ℕ
+number b m l = cond (is_empty l) None (continued b 0 m l)

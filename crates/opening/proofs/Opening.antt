@@ -1,12 +1,14 @@
 -- Laws of what every call begins with: 1, 11 and 12, and then the entries of a sound book. Assumes nothing.
-use mathlib.Core.Path.{◌≡◌, sym, ap, ◌∙◌}
+use mathlib.Core.Path.{◌≡◌, refl, sym, ap, ◌∙◌}
 use mathlib.Core.Bool.{Bool, true, false}
 use mathlib.Core.List.{List, [], ◌++◌}
 use mathlib.Core.Option
 use mathlib.Core.Option.{Option, some}
-use Prim.Native.Nat.{ℕ, suc, ◌+◌, ◌*◌, ◌≤◌, ◌<◌}
+use Prim.Native.Nat.{ℕ, zero, suc, ◌+◌, ◌*◌, ◌≤◌, ◌<◌}
 use native.Mathlib.Omega.{arith}
-use lib.ListN.{length, get_or, take, drop, take-append-drop}
+use lib.ListN.{length, get_or, take, drop, take-append-drop, drop_of_length-le}
+use lib.Seq.{drop-cons}
+use Rattle.layout.specs.Entries.{entries_from, Lie}
 use borrow.Author.Tests.{le-ltb, ltb-false}
 use Rattle.words.specs.Words.{most_words, too_long}
 use Rattle.words.specs.Outcome.{Outcome, drawn, refused}
@@ -15,7 +17,8 @@ use Rattle.words.proofs.Tape.{within_limit, limit_within}
 use Rattle.words.proofs.Exactly.{first_given, first_before, given_append, none_given, drawn_exactly, exactly}
 use Rattle.words.proofs.Reading.{refused_not_drawn}
 use Rattle.bytes_le.proofs.Numbers.{Bytes}
-use Rattle.layout.specs.declared.Walked.TheVariants.{Damaged, Sound}
+use Rattle.std.specs.Prelude.{None, Some}
+use Rattle.std.proofs.Common.{Fits, w8}
 use Rattle.entry.specs.declared.Entry.{Entry}
 use Rattle.entry.specs.Entry.{length_at, entry_at, blank}
 use Rattle.layout.specs.Book.{length_all, used_all, decode, most_bytes, book_too_long, is_none}
@@ -77,11 +80,11 @@ module _ (ws b : List ℕ) where
     opened_big g = rw (h, g)
 
     module _ (g : book_too_long b ≡ false) where
-      pub opened_damaged : Damaged ≡ walked (length ws) b → refused 12 ≡ opened ws b
+      pub opened_damaged : None ≡ walked (length ws) b → refused 12 ≡ opened ws b
       unfolding opened is_damaged_for
       opened_damaged e = rw (h, g, walked_damaged (length ws) b e)
 
-      pub opened_sound : (st : Standing) → Sound st ≡ walked (length ws) b → drawn st 0 ≡ opened ws b
+      pub opened_sound : (st : Standing) → Some st ≡ walked (length ws) b → drawn st 0 ≡ opened ws b
       unfolding opened book_too_long
       opened_sound st e =
           let t = walked_sound (length ws) b st e in
@@ -90,6 +93,8 @@ module _ (ws b : List ℕ) where
           (none_given (limits ws b) (drawn (standing (booked ws b)) 0) x.0
           ∙ ap (λ (es : List Entry). drawn (standing es) 0) x.1
           ∙ sym (ap (λ (s : Standing). drawn s 0) t.stands))
+
+  pub ruleset openings = (opened_long, opened_big, opened_damaged, opened_sound)
 
   -- ---- and what its answer tells
 
@@ -145,6 +150,20 @@ module _ {long : Bool} (t : ℕ) (b : List ℕ) (by : Bytes b) (h : NoneHolds (l
     pub open_read : (at : ℕ) (e : Entry) → at ≡ offset b i → entry_at b at ≡ some e → e ≡ get_or (booked_for t b) i blank
     open_read at e ea here = cc (ap (entry_at b) ea ∙ open_entry)
 
+  -- those from the k-th on lie one after another
+  open_from : (n k : ℕ) → k + n ≡ length (booked_for t b) → Lie n b (offset b k) × (entries_from n b (offset b k) ≡ drop k (booked_for t b))
+  unfolding Lie entries_from offset
+  open_from zero k e = (tt, sym (drop_of_length-le es (omega arith)))
+  open_from (suc n) k e =
+      let l : k < length es = omega arith in
+      let r = open_from n (suc k) (omega arith) in
+      let x = open_next k l (offset b k) refl in
+      ((open_whole k l, x.0, x.1, r.0), rw (open_entry k l, r.1, drop-cons es k blank l))
+
+  pub open_all : (n : ℕ) → n ≡ length (booked_for t b) → Lie n b 0 × (entries_from n b 0 ≡ booked_for t b)
+  unfolding offset
+  open_all n e = open_from n 0 (omega arith)
+
 -- the same of what a call was told
 pub stands_room : (ws b : List ℕ) (st : Standing) → Bytes b → IsOpen ws b st
     → (st.end ≤ length b) × (st.place ≤ length ws) × (fixed_length * st.entries ≤ length b) × (length b ≤ most_bytes)
@@ -154,3 +173,42 @@ stands_room ws b st by o =
     let ei : length_all (booked ws b) ≡ st.end = ap (λ (x : Standing). x.end) o.1 in
     let ep : used_all (booked ws b) ≡ st.place = ap (λ (x : Standing). x.place) o.1 in
     (omega arith, omega arith, omega arith, open_book (length ws) b o.0)
+
+-- ---- and where they lie: of bytes that were lent, each of which fits
+
+module _ (ws b : List ℕ) (st : Standing) (fits : (i : ℕ) → Fits w8 (get_or b i 0)) (o : IsOpen ws b st) where
+  lent : Bytes b
+  lent i = (fits i).fits
+
+  number : length (booked ws b) ≡ st.entries
+  number = ap (λ (x : Standing). x.entries) o.1
+
+  -- they are few, they end within the book, and their words are on the tape
+  pub stands_few : st.entries ≤ most_bytes
+  stands_few = let r = stands_room ws b st lent o in omega (arith, r.2, r.3)
+
+  pub stands_within : st.end ≤ length b
+  stands_within = (stands_room ws b st lent o).0
+
+  pub stands_on_tape : st.place ≤ length ws
+  stands_on_tape = (stands_room ws b st lent o).1
+
+  -- the first k of them can be passed
+  pub stands_reach : (k : ℕ) → k ≤ st.entries → Reaches b k
+  stands_reach k l = open_reach (length ws) b lent o.0 k (omega (arith, number))
+
+  -- and the next begins where all end, or before that
+  pub stands_before : (k at : ℕ) → k ≤ st.entries → at ≡ offset b k → at ≤ st.end
+  stands_before k at l e =
+      omega (arith, open_within (length ws) b lent o.0 k (omega (arith, number)), ap (λ (x : Standing). x.end) o.1)
+
+  -- they lie one after another
+  pub stands_all : Lie st.entries b 0 × (entries_from st.entries b 0 ≡ booked ws b)
+  stands_all = open_all (length ws) b lent o.0 st.entries (sym number)
+
+  -- each lies whole
+  pub stands_whole : (k at : ℕ) → k < st.entries → at ≡ offset b k → HasEntry b at
+  stands_whole k at l e = rw e (open_whole (length ws) b lent o.0 k (omega (arith, number)))
+
+-- what every call's beginning gives it, for `grind`
+pub ruleset standings = (sound_opening, stands_few, stands_within, stands_on_tape, stands_reach, stands_before, stands_all, stands_whole)

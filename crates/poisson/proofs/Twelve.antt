@@ -2,12 +2,13 @@
 -- grow to, so e^-12 is what the fractions (1 / sum)^12 fall to, and every fraction from any of these up to 1, rounded, is in the range
 -- (`twelve_inside`). Not proved, since no real number has a definition here: that a fraction above e^-12 is above one of these, that e^-lambda
 -- lies between e^-12 and 1, and that a real number between two fractions is rounded to a float between theirs. Assumes nothing.
-use mathlib.Core.Path.{◌≡◌, sym, ap, ap₂, ◌∙◌}
+use mathlib.Core.Path.{◌≡◌, ap, ◌∙◌}
 use mathlib.Core.Bool.{true}
 use Prim.Native.Nat.{ℕ, zero, suc, ◌+◌, ◌*◌, ◌^◌, ◌≤◌, ◌<◌}
-use native.Mathlib.Nat.{mul_left_comm, mul-suc, mul-le-mul_left, mul-le-mul_right, mul-mul-mul_comm, mul_assoc, mul-pos, le_of_lt, le_trans, le_of_mul-le-mul_left, pow-zero, pow-suc, pow-le-pow_left, one-le-pow}
+use native.Mathlib.Nat.{mul_left_comm, mul-suc, mul-le-mul_left, mul-le-mul_right, mul_assoc, mul-pos, le_of_lt, le_trans, le_of_mul-le-mul_left, pow-le-pow_left, one-le-pow}
 use native.Mathlib.Omega.{arith}
 use lib.Dec.{lit<, lit≤}
+use Rattle.std.proofs.lemmas.Nat.{mul-pow}
 use Rattle.words.specs.Words.{ratio}
 use Rattle.poisson.specs.Poisson.{in_range}
 use Rattle.poisson.proofs.Range.{ratio_inside}
@@ -50,12 +51,6 @@ e_below (suc (suc (suc (suc n)))) = let h = from_four n in omega arith
 pub four_elevenths_inside : (a b : ℕ) → 0 < b → 4 ^ 12 * b ≤ 11 ^ 12 * a → a ≤ b → in_range (ratio a b) ≡ true
 four_elevenths_inside a b pos low high = ratio_inside a b pos (omega arith) high
 
--- a power of a product is the product of the powers
-pub power_times : (a b k : ℕ) → (a * b) ^ k ≡ a ^ k * b ^ k
-power_times a b zero = simp pow-zero
-power_times a b (suc k) =
-    pow-suc (a * b) k ∙ ap (λ (x : ℕ). x * (a * b)) (power_times a b k) ∙ mul-mul-mul_comm (a ^ k) (b ^ k) a b ∙ ap₂ (λ (x y : ℕ). x * y) (sym (pow-suc a k)) (sym (pow-suc b k))
-
 factorial_pos : (n : ℕ) → 0 < factorial n
 unfolding factorial
 factorial_pos zero = lit< tt
@@ -67,7 +62,7 @@ twelve_inside n a b pos low high =
     let f : ℕ = factorial n ^ 12 in
     let s : ℕ = sum_over n ^ 12 in
     let grown : 4 ^ 12 * s ≤ 11 ^ 12 * f =
-    rw (← power_times 4 (sum_over n) 12, ← power_times 11 (factorial n) 12) (pow-le-pow_left (le_of_lt (e_below n)) 12) in
+    rw (← mul-pow 4 (sum_over n) 12, ← mul-pow 11 (factorial n) 12) (pow-le-pow_left (le_of_lt (e_below n)) 12) in
     let left : 4 ^ 12 * (f * b) ≤ 4 ^ 12 * (s * a) = mul-le-mul_left (4 ^ 12) low in
     let right : 4 ^ 12 * s * a ≤ 11 ^ 12 * f * a = mul-le-mul_right a grown in
     let both : f * (4 ^ 12 * b) ≤ f * (11 ^ 12 * a) =

@@ -1,12 +1,10 @@
 // The lines of standard input, each answered as soon as it has come.
-ghost use Rattle.std.specs.Prelude.{◌≤◌, length as size};
-
-use crate::say;
-use crate::store::replace;
-use input::{Got, read_some};
+use crate::failure::Failure;
+use crate::store::BookFile;
+use answer_lines::ANSWER_BYTES;
+use arrayvec::ArrayVec;
 use std::fs::Files;
 use std::io::Read;
-use std::num::wrapping_add_u64;
 
 // Of a line this many bytes are kept: a text of 255, a carriage return and the newline. Of a longer one the newline is not, so that
 // what is kept of it is no line.
@@ -14,155 +12,76 @@ const LINE_BYTES: usize = 257;
 
 const CHUNK_BYTES: usize = 4096;
 
-// How far the reading is: the number of the line at hand, how many of its bytes are kept, and whether to go on.
-#[derive(Clone, Copy)]
-struct Reading {
+// The line at hand: its number, and what is kept of its bytes.
+#[derive(Drop)]
+struct Line {
     number: u64,
-    length: usize,
-    goes_on: bool,
+    bytes: ArrayVec<u8, LINE_BYTES>,
 }
 
-// Answers a line. What changed the book is on the disk before the answer is written.
-fn answer<R: Files + Print>(
-    rt: &R,
-    tape: &[u64],
-    book: &mut [u8],
-    path: &[u8],
-    line: &[u8],
-    number: u64,
-) -> bool
-    requires { size path.now ≤ 4091 }
-{
-    let mut out = [0u8; answer_lines::ANSWER_BYTES];
-    let served = service::serve(tape, book, number, line, &mut out);
-    if served.changed && !replace(rt, path, book) {
-        say(rt, b"unwritten\n");
-        return false;
+// What lines are answered over: the tape, and the book with its file.
+#[derive(Drop)]
+pub(crate) struct Service<'a, 'b, R> {
+    pub(crate) rt: &'a R,
+    pub(crate) tape: &'a [u64],
+    pub(crate) book: &'b mut [u8],
+    pub(crate) file: &'a BookFile<'a, R>,
+}
+
+impl<R: Files + Print> Service<'_, '_, R> {
+    // Answers a line. What changed the book is on the disk before the answer is written.
+    fn answer(&mut self, line: &Line) -> Result<(), Failure> {
+        let mut out = [0u8; ANSWER_BYTES];
+        let served = service::serve(
+            self.tape,
+            self.book,
+            line.number,
+            line.bytes.as_slice(),
+            &mut out,
+        );
+        if served.changed {
+            self.file
+                .replace(self.book)
+                .map_err(|_| Failure::Unwritten)?;
+        }
+        self.rt
+            .write_all(&out[..served.length])
+            .map_err(|_| Failure::Unanswered)
     }
-    let n = served.length;
-    rt.write_all(&out[..n]).is_ok()
-}
 
-// Keeps a byte of the line, where there is room.
-fn keep(line: &mut [u8], length: usize, byte: u8) -> usize
-    requires { length ≤ size line.old }
-    ensures { result ≤ size line.old }
-{
-    if length < line.len() {
-        line[length] = byte;
-        return length + 1;
+    // Takes the bytes that have come: a newline ends the line at hand, which is answered.
+    fn take_bytes(&mut self, line: &mut Line, bytes: &[u8]) -> Result<(), Failure> {
+        for byte in bytes {
+            // what has no room is not kept
+            let _ = line.bytes.try_push(*byte);
+            if *byte == b'\n' {
+                self.answer(line)?;
+                line.number = line.number.wrapping_add(1);
+                line.bytes.clear();
+            }
+        }
+        Ok(())
     }
-    length
-}
 
-// Takes a byte of the input: a newline ends the line at hand, which is answered.
-fn take_byte<R: Files + Print>(
-    rt: &R,
-    tape: &[u64],
-    book: &mut [u8],
-    path: &[u8],
-    line: &mut [u8],
-    reading: Reading,
-    byte: u8,
-) -> Reading
-    requires { (size path.now ≤ 4091) × (reading.length ≤ size line.old) }
-    ensures { result.length ≤ size line.old }
-{
-    let number = reading.number;
-    let length = keep(line, reading.length, byte);
-    if byte == b'\n' {
-        let goes_on = answer(rt, tape, book, path, &line[..length], number);
-        return Reading {
-            number: wrapping_add_u64(number, 1),
-            length: 0,
-            goes_on,
+    // Answers every line. What the input has after its last newline was cut off: it is handed on as it is, and is no line. A proved loop
+    // has to end, so this one has a number of turns that no run uses up.
+    pub(crate) fn answer_all<I: Read>(&mut self, input: &mut I) -> Result<(), Failure> {
+        let mut line = Line {
+            number: 1,
+            bytes: ArrayVec::new(),
         };
-    }
-    Reading {
-        number,
-        length,
-        goes_on: true,
-    }
-}
-
-// Takes the bytes that have come.
-fn take_bytes<R: Files + Print>(
-    rt: &R,
-    tape: &[u64],
-    book: &mut [u8],
-    path: &[u8],
-    line: &mut [u8],
-    reading: Reading,
-    bytes: &[u8],
-) -> Reading
-    requires { (size path.now ≤ 4091) × (reading.length ≤ size line.old) }
-    ensures { result.length ≤ size line.old }
-{
-    let mut now = reading;
-    let mut i: usize = 0;
-    while i < bytes.len() {
-        now = take_byte(rt, tape, book, path, line, now, bytes[i]);
-        if !now.goes_on {
-            break;
-        }
-        i += 1;
-    }
-    now
-}
-
-// One read, and the lines that it ends. What the input has after its last newline was cut off: it is handed on as it is, and is no line.
-fn take_some<R: Files + Print, I: Read>(
-    rt: &R,
-    input: &mut I,
-    tape: &[u64],
-    book: &mut [u8],
-    path: &[u8],
-    line: &mut [u8],
-    reading: Reading,
-) -> Reading
-    requires { (size path.now ≤ 4091) × (reading.length ≤ size line.old) }
-    ensures { result.length ≤ size line.old }
-{
-    let mut chunk = [0u8; CHUNK_BYTES];
-    let number = reading.number;
-    let length = reading.length;
-    match read_some(input, &mut chunk) {
-        Got::Failed => say(rt, b"unread input\n"),
-        Got::Bytes(n) => {
-            if n != 0 {
-                return take_bytes(rt, tape, book, path, line, reading, &chunk[..n]);
+        let mut chunk = [0u8; CHUNK_BYTES];
+        for _ in 0..u64::MAX {
+            let n = input.read(&mut chunk).map_err(|_| Failure::UnreadInput)?;
+            if n == 0 {
+                return if line.bytes.is_empty() {
+                    Ok(())
+                } else {
+                    self.answer(&line)
+                };
             }
-            if length != 0 {
-                answer(rt, tape, book, path, &line[..length], number);
-            }
+            self.take_bytes(&mut line, &chunk[..n])?;
         }
-    }
-    Reading {
-        number,
-        length: 0,
-        goes_on: false,
-    }
-}
-
-// Answers every line. A proved loop has to end, so this one counts its turns, from a number that no run uses up.
-pub(crate) fn answer_all<R: Files + Print, I: Read>(
-    rt: &R,
-    input: &mut I,
-    tape: &[u64],
-    book: &mut [u8],
-    path: &[u8],
-)
-    requires { size path.now ≤ 4091 }
-{
-    let mut line = [0u8; LINE_BYTES];
-    let mut reading = Reading {
-        number: 1,
-        length: 0,
-        goes_on: true,
-    };
-    let mut turns = u64::MAX;
-    while turns > 0 && reading.goes_on {
-        reading = take_some(rt, input, tape, book, path, &mut line, reading);
-        turns -= 1;
+        Ok(())
     }
 }

@@ -1,186 +1,121 @@
 // The book's file: read whole, and replaced whole. A kill at any moment leaves the old file or the new one.
-ghost use Rattle.std.specs.Prelude.{◌≤◌, length};
-ghost use Rattle.std.specs.Counts.{IsPrefixLen};
-ghost use Rattle.pull.specs.Inner.{KeptWithin};
-
-use crate::files::{create, open_overwrite, open_read, rename};
+use crate::failure::Failure;
 use bytes_le::all_zero;
-use input::{Got, fill};
-use std::fs::{Files, OpenFile};
-use std::io;
+use input::fill;
+use std::env::Env;
+use std::fs::{File, Files, OpenFile, OpenOptions};
 use std::io::{ErrorKind, Write};
-use writing::put_text;
+use std::{fs, io, str};
 
-// The bytes of a book that is made here, and a byte more: enough to tell that a file is longer than any book.
-pub(crate) const BOOK_BYTES: usize = 65_536;
+// The bytes of a book that is made here.
+const BOOK_BYTES: usize = 65_536;
 
-pub(crate) const READ_BYTES: usize = 65_537;
+// A byte more is enough to tell that a file is longer than any book.
+pub(crate) const READ_BYTES: usize = BOOK_BYTES + 1;
 
 // The longest name of a book, so that `.new` fits after it.
-pub(crate) const MOST_NAME: usize = 4091;
+const MOST_NAME: usize = 4091;
 
 // These hold its name with `.new`.
-const NEXT_BYTES: usize = 4096;
+pub(crate) const NEXT_BYTES: usize = 4096;
 
-// What the book's file gave: so many bytes; or that it can't be read, or can't be made.
-#[derive(Clone, Copy)]
-pub(crate) enum Kept {
-    Bytes(usize),
-    Unread,
-    Unwritten,
+const NEXT: &[u8; 4] = b".new";
+
+// The name of the book's file, and of the next file, which is written whole and takes its name.
+#[derive(Drop)]
+pub(crate) struct BookFile<'a, R> {
+    rt: &'a R,
+    path: &'a str,
+    next: &'a str,
 }
 
-// ---- names
-
-// Puts the name of the book's next file at the front of `name`, and answers its length. Its clause lets the check see by itself that
-// `&name[..n]` lies within.
-fn next_name(path: &[u8], name: &mut [u8; NEXT_BYTES]) -> usize
-    requires { length path.now ≤ 4091 }
-    ensures { IsPrefixLen result name.new }
-{
-    let end = put_text(name, 0, path);
-    put_text(name, end, b".new")
+// The folder that a path lies in.
+fn folder_of(path: &str) -> &str {
+    let folder = path.trim_end_matches(|c: char| c != '/');
+    if folder.is_empty() { "." } else { folder }
 }
 
-// The length of the folder's name in a path, with its last slash; 0 where the path has none.
-fn folder_length(path: &[u8]) -> usize
-    ensures { IsPrefixLen result path.now }
-{
-    let mut n = path.len();
-    while 0 < n {
-        if path[n - 1] == b'/' {
-            break;
+impl<'a, R: Files> BookFile<'a, R> {
+    // The file that the second argument names. No file has an empty name, and `.new` after it would be one.
+    pub(crate) fn named(rt: &'a R, name: &'a mut [u8; NEXT_BYTES]) -> Option<Self>
+    where
+        R: Env,
+    {
+        let n = rt.arg(2, &mut name[..MOST_NAME]).ok()?;
+        if n == 0 {
+            return None;
         }
-        n -= 1;
+        let end = n + NEXT.len();
+        name[n..end].copy_from_slice(NEXT);
+        Some(BookFile {
+            rt,
+            path: str::from_utf8(&name[..n]).ok()?,
+            next: str::from_utf8(&name[..end]).ok()?,
+        })
     }
-    n
-}
 
-// ---- writing
+    // ---- writing
 
-// Opens the folder that the path lies in.
-fn open_folder<R: Files>(rt: &R, path: &[u8]) -> io::Result<R::File> {
-    let n = folder_length(path);
-    if n == 0 {
-        return open_read(rt, b".");
+    // Waits until the names in the path's folder are on the disk.
+    fn sync_folder(&self) -> io::Result<()> {
+        File::open(self.rt, folder_of(self.path))?.sync_all()
     }
-    open_read(rt, &path[..n])
-}
 
-// Waits until the names in the path's folder are on the disk.
-fn sync_folder(rt: &impl Files, path: &[u8]) -> bool {
-    match open_folder(rt, path) {
-        Ok(folder) => folder.sync_all().is_ok(),
-        Err(_) => false,
+    // Writes the next file whole, and waits until it is on the disk, even where not all could be written. It is closed at the end: the
+    // library tells of no failure there, where all was synced.
+    fn write_next(&self, bytes: &[u8]) -> io::Result<()> {
+        let mut file = File::create(self.rt, self.next)?;
+        let written = file.write_all(bytes);
+        let synced = file.sync_all();
+        written.and(synced)
     }
-}
 
-// Writes a file whole, and waits until it is on the disk. It is closed at the end: the library tells of no failure there, where all was synced.
-fn write_synced(rt: &impl Files, path: &[u8], bytes: &[u8]) -> bool {
-    let Ok(mut file) = open_overwrite(rt, path) else {
-        return false;
-    };
-    let is_written = file.write_all(bytes).is_ok();
-    let is_synced = file.sync_all().is_ok();
-    is_written && is_synced
-}
+    // The next file takes the book's name.
+    fn take_name(&self) -> io::Result<()> {
+        fs::rename(self.rt, self.next, self.path)?;
+        self.sync_folder()
+    }
 
-// The next file takes the book's name.
-fn take_name(rt: &impl Files, next: &[u8], path: &[u8]) -> bool {
-    if rename(rt, next, path).is_err() {
-        return false;
+    // Replaces the book's file by these bytes. Ok: they are on the disk under its name.
+    pub(crate) fn replace(&self, bytes: &[u8]) -> io::Result<()> {
+        self.write_next(bytes)?;
+        self.take_name()
     }
-    sync_folder(rt, path)
-}
 
-// Replaces the book's file by these bytes. True: they are on the disk under its name.
-pub(crate) fn replace(rt: &impl Files, path: &[u8], bytes: &[u8]) -> bool
-    requires { length path.now ≤ 4091 }
-{
-    let mut name = [0u8; NEXT_BYTES];
-    let n = next_name(path, &mut name);
-    if !write_synced(rt, &name[..n], bytes) {
-        return false;
+    // Makes a book of zeros where there was none: its bytes first, then its name, which `create_new` gives only to a file that is new.
+    fn make(&self, zeros: &[u8]) -> io::Result<()> {
+        self.write_next(zeros)?;
+        OpenOptions::new()
+            .write(true)
+            .create_new(true)
+            .open(self.rt, self.path)?;
+        self.take_name()
     }
-    take_name(rt, &name[..n], path)
-}
 
-// ---- reading
+    // ---- reading
 
-// Makes a book of zeros where there was none: its bytes first, then its name, which `create` gives only to a file that is new.
-fn make(rt: &impl Files, path: &[u8], zeros: &[u8]) -> bool
-    requires { length path.now ≤ 4091 }
-{
-    let mut name = [0u8; NEXT_BYTES];
-    let n = next_name(path, &mut name);
-    if !write_synced(rt, &name[..n], zeros) {
-        return false;
+    // Whether the next file is a whole empty book.
+    fn is_next_whole(&self, book: &mut [u8]) -> io::Result<bool> {
+        let mut file = File::open(self.rt, self.next)?;
+        Ok(fill(&mut file, book)? == BOOK_BYTES && all_zero(book, 0))
     }
-    if create(rt, path).is_err() {
-        return false;
-    }
-    take_name(rt, &name[..n], path)
-}
 
-// A book's file with no byte beside a next file that is a whole empty book: its making was cut short, and is finished here.
-fn finish_making(rt: &impl Files, path: &[u8], book: &mut [u8]) -> Kept
-    requires { (length path.now ≤ 4091) × (65536 ≤ length book.old) }
-    ensures { KeptWithin (length book.new) result }
-{
-    let mut name = [0u8; NEXT_BYTES];
-    let n = next_name(path, &mut name);
-    let Ok(mut file) = open_read(rt, &name[..n]) else {
-        return Kept::Bytes(0);
-    };
-    let got = fill(&mut file, book);
-    drop(file);
-    let Got::Bytes(length) = got else {
-        return Kept::Bytes(0);
-    };
-    if length != BOOK_BYTES {
-        return Kept::Bytes(0);
-    }
-    if !all_zero(book, 0) {
-        return Kept::Bytes(0);
-    }
-    if take_name(rt, &name[..n], path) {
-        return Kept::Bytes(BOOK_BYTES);
-    }
-    Kept::Unwritten
-}
-
-// Where the book can't be opened since there is none, one is made. `book` holds zeros.
-fn make_missing(rt: &impl Files, path: &[u8], book: &[u8], why: ErrorKind) -> Kept
-    requires { (length path.now ≤ 4091) × (65536 ≤ length book.now) }
-    ensures { KeptWithin (length book.now) result }
-{
-    if why != ErrorKind::NotFound {
-        return Kept::Unread;
-    }
-    if make(rt, path, &book[..BOOK_BYTES]) {
-        return Kept::Bytes(BOOK_BYTES);
-    }
-    Kept::Unwritten
-}
-
-// Reads the book's file whole, or makes one of zeros where it is missing. `book` holds zeros before.
-pub(crate) fn load(rt: &impl Files, path: &[u8], book: &mut [u8]) -> Kept
-    requires { (length path.now ≤ 4091) × (65536 ≤ length book.old) }
-    ensures { KeptWithin (length book.new) result }
-{
-    let mut file = match open_read(rt, path) {
-        Ok(file) => file,
-        Err(e) => return make_missing(rt, path, book, e.kind()),
-    };
-    let got = fill(&mut file, book);
-    drop(file);
-    match got {
-        Got::Failed => Kept::Unread,
-        Got::Bytes(n) => {
-            if n == 0 {
-                return finish_making(rt, path, book);
+    // Reads the book's file whole, or makes one of zeros where it is missing. `room` holds zeros before. A file with no byte beside a next
+    // file that is a whole empty book is one whose making was cut short, and is finished here.
+    pub(crate) fn load<'b>(&self, room: &'b mut [u8; READ_BYTES]) -> Result<&'b mut [u8], Failure> {
+        let mut n = match File::open(self.rt, self.path) {
+            Ok(mut file) => fill(&mut file, room).map_err(|_| Failure::UnreadBook)?,
+            Err(e) if e.kind() == ErrorKind::NotFound => {
+                self.make(&room[..BOOK_BYTES])
+                    .map_err(|_| Failure::Unwritten)?;
+                BOOK_BYTES
             }
-            Kept::Bytes(n)
+            Err(_) => return Err(Failure::UnreadBook),
+        };
+        if n == 0 && self.is_next_whole(room).unwrap_or(false) {
+            self.take_name().map_err(|_| Failure::Unwritten)?;
+            n = BOOK_BYTES;
         }
+        Ok(&mut room[..n])
     }
 }

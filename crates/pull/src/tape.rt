@@ -1,13 +1,13 @@
 // The tape: a file of 64-bit words, the lowest byte first.
-ghost use Rattle.std.specs.Prelude.{◌≤◌, length};
-ghost use Rattle.pull.specs.Inner.{LoadedWithin, TakenWithin};
+ghost use Rattle.std.specs.Prelude.{◌≤◌, length, IfOk};
 
-use crate::files::open_read;
+use crate::failure::Failure;
 use bytes_le::read_words;
-use input::{Got, fill};
+use input::fill;
 use std::env::Env;
-use std::fs::Files;
+use std::fs::{File, Files};
 use std::io::Read;
+use std::str;
 
 // The most words of a tape that this program holds.
 pub(crate) const MOST_WORDS: usize = 131_072;
@@ -17,72 +17,40 @@ const CHUNK_BYTES: usize = 4096;
 // These hold the longest name of a file.
 const NAME_BYTES: usize = 4096;
 
-// What a tape's file gave: so many words; or that it holds more than the program does, or can't be read as words.
-#[derive(Clone, Copy)]
-pub(crate) enum Loaded {
-    Words(usize),
-    TooLong,
-    Unread,
-}
-
-// What a part of the file adds to the words so far: the number of words now, and whether the file may go on.
-#[derive(Clone, Copy)]
-enum Taken {
-    More(usize),
-    Last(usize),
-    TooLong,
-    Unread,
-}
-
-// Reads a part of the file into the tape after the first `words` words.
-fn take_part<F: Read>(file: &mut F, tape: &mut [u64], words: usize) -> Taken
-    requires { words ≤ length tape.old }
-    ensures { TakenWithin words (length tape.new) result }
+// Reads the whole file to the front of the tape, part by part, and answers how many words it has.
+fn take_all<F: Read>(file: &mut F, tape: &mut [u64]) -> Result<usize, Failure>
+    ensures { IfOk result (λ n. n ≤ length tape.new) }
 {
     let mut chunk = [0u8; CHUNK_BYTES];
-    match fill(file, &mut chunk) {
-        Got::Failed => Taken::Unread,
-        Got::Bytes(n) => {
-            if tape.len() - words < (n + 7) / 8 {
-                return Taken::TooLong;
-            }
-            if n % 8 != 0 {
-                return Taken::Unread;
-            }
-            read_words(&chunk, n / 8, tape, words);
-            if n < CHUNK_BYTES {
-                return Taken::Last(words + n / 8);
-            }
-            Taken::More(words + n / 8)
-        }
-    }
-}
-
-// Reads the whole file.
-fn take_all<F: Read>(file: &mut F, tape: &mut [u64]) -> Loaded
-    ensures { LoadedWithin (length tape.new) result }
-{
-    let mut words: usize = 0;
+    // the loop counts words by itself: how many a read gives is known only after it
+    let mut words = 0;
     loop {
-        match take_part(file, tape, words) {
-            Taken::More(n) => words = n,
-            Taken::Last(n) => return Loaded::Words(n),
-            Taken::TooLong => return Loaded::TooLong,
-            Taken::Unread => return Loaded::Unread,
+        let n = fill(file, &mut chunk).map_err(|_| Failure::UnreadTape)?;
+        if tape.len() - words < n.div_ceil(8) {
+            return Err(Failure::TapeTooLong);
+        }
+        if n % 8 != 0 {
+            return Err(Failure::UnreadTape);
+        }
+        read_words(&chunk, n / 8, tape, words);
+        words += n / 8;
+        if n < CHUNK_BYTES {
+            return Ok(words);
         }
     }
 }
 
-// Reads the tape's file, which the first argument names.
-pub(crate) fn load<R: Env + Files>(rt: &R, tape: &mut [u64]) -> Loaded
-    ensures { LoadedWithin (length tape.new) result }
-{
+// Opens the tape's file, which the first argument names.
+fn open<R: Env + Files>(rt: &R) -> Option<R::File> {
     let mut name = [0u8; NAME_BYTES];
-    let Ok(length) = rt.arg(1, &mut name) else {
-        return Loaded::Unread;
-    };
-    let Ok(mut file) = open_read(rt, &name[..length]) else {
-        return Loaded::Unread;
-    };
-    take_all(&mut file, tape)
+    let n = rt.arg(1, &mut name).ok()?;
+    let path = str::from_utf8(&name[..n]).ok()?;
+    File::open(rt, path).ok()
+}
+
+// Reads the tape, which lies at the front of `room` then.
+pub(crate) fn load<'a, R: Env + Files>(rt: &R, room: &'a mut [u64]) -> Result<&'a [u64], Failure> {
+    let mut file = open(rt).ok_or(Failure::UnreadTape)?;
+    let words = take_all(&mut file, room)?;
+    Ok(&room[..words])
 }

@@ -9,7 +9,7 @@ use native.Mathlib.Nat.{le_refl, le_trans, lt_of_le_of_lt, eq-or-lt_of_le, mul-l
 use native.Mathlib.Omega.{arith}
 use borrow.Author.Tests.{eq-eqb, ne_eqb}
 use lib.Dec.{lit<}
-use Rattle.poisson.proofs.Twelve.{power_times}
+use Rattle.std.proofs.lemmas.Nat.{mul-pow}
 use Rattle.quarters.specs.Quarters.{bottom, top, too_low, too_high, RoundedDown, E, most_quarters, Thresholds}
 use Rattle.quarters.proofs.Thresholds.{by_low, by_high, low_below_high}
 
@@ -159,7 +159,7 @@ later_between n h = (odd_lowest (n - too_low) too_low n refl (omega arith), belo
 -- ---- their powers
 
 powers : (m n j : ℕ) → AtMost m n → top m ^ j * bottom n ^ j ≤ top n ^ j * bottom m ^ j
-powers m n j h = rw (← power_times (top m) (bottom n) j, ← power_times (top n) (bottom m) j) (pow-le-pow_left h j)
+powers m n j h = rw (← mul-pow (top m) (bottom n) j, ← mul-pow (top n) (bottom m) j) (pow-le-pow_left h j)
 
 bottom_power_pos : (n j : ℕ) → 0 < bottom n ^ j
 bottom_power_pos n j = one-le-pow j (bottom n) (bottom_pos n)

@@ -58,49 +58,34 @@ const THRESHOLDS: [u64; 47] = [
     35530360351,
 ];
 
-// The draw with the mean j / 4.
+// The draw with the mean j / 4. (Its tests are like those of `poisson::sample_bits`, but of another range and with another refusal; what follows them
+// is one function.)
 pub fn sample(tape: &[u64], j: u64) -> Answer
     ensures { DrawAllows (quarters «j») tape.now result }
 {
     if words::too_long(tape) {
-        return Answer::Refused(Refusal::TapeTooLong);
+        return Err(Refusal::TapeTooLong);
     }
-    if j >= 1 {
-        if j <= 47 {
-            return poisson::knuth_method(tape, threshold(j));
-        }
+    // Two comparisons and no `contains`: of a number outside, that tells which end it is past only by way of whether the range is spent.
+    if j >= 1 && j <= 47 {
+        return poisson::knuth_method(tape, threshold(j));
     }
-    Answer::Refused(Refusal::MeanOutside)
+    Err(Refusal::MeanOutside)
 }
 
-// The threshold of the mean j / 4: E(j) over 2^52. Both the cast and the division are exact.
+// The threshold of the mean j / 4: E(j) over 2^52. Both the casts and the division are exact. By way of i64, whose cast is one instruction of
+// the machine; that of u64 is several.
 fn threshold(j: u64) -> f64
     requires { (1 ≤ j) × (j ≤ most_quarters) }
     ensures { result ≡ threshold_of j }
 {
-    (numerator(j) as f64) / 4503599627370496.0
+    (numerator(j) as i64 as f64) / 4503599627370496.0
 }
 
-// The means in quarters, in the order of the list.
-const MEANS: [u64; 47] = [
-    1, 2, 3, 4, 5, 6, 7, 8, 9, 10, 11, 12, 13, 14, 15, 16, 17, 18, 19, 20, 21, 22, 23, 24, 25, 26,
-    27, 28, 29, 30, 31, 32, 33, 34, 35, 36, 37, 38, 39, 40, 41, 42, 43, 44, 45, 46, 47,
-];
-
-// E(j), from the list, where j is looked for. Of an array that is read at a computed place the compiler first lays out every number on the stack;
-// of this loop it makes a table.
+// E(j), from the list.
 fn numerator(j: u64) -> u64
     requires { (1 ≤ j) × (j ≤ most_quarters) }
     ensures { result ≡ E j }
 {
-    let means = MEANS;
-    let thresholds = THRESHOLDS;
-    let mut i: usize = 0;
-    while i < 46 {
-        if means[i] == j {
-            return thresholds[i];
-        }
-        i += 1;
-    }
-    thresholds[46]
+    THRESHOLDS[(j - 1) as usize]
 }

@@ -1,30 +1,36 @@
 -- A redraw, way by way, and a turn of its loop. Assumes nothing.
 use mathlib.Core.Path.{◌≡◌, refl, sym, ap, ◌∙◌}
-use mathlib.Core.Bool.{Bool, true, false, cond, not}
+use mathlib.Core.Bool.{Bool, true, false, cond, not, ◌&&◌}
 use mathlib.Core.List.{List, [], ◌∷◌}
 use mathlib.Core.Logic.{inl, inr}
 use mathlib.Core.Option.{Option, none, some}
-use Prim.Native.Nat.{ℕ, zero, suc, ◌+◌, ◌<◌, ◌≤◌, suc-le-suc}
+use Prim.Native.Nat.{ℕ, zero, suc, ◌-◌, ◌<◌, ◌≤◌, suc-le-suc}
 use native.Mathlib.Nat.{zero-lt-suc, le_of_suc-le-suc, not-suc-le-zero}
-use native.Mathlib.Numerals.{add-one}
 use native.Mathlib.Omega.{arith}
 use lib.Dec.{eqb}
-use lib.ListN.{length, get_or, drop, drop_of_length-le}
-use lib.Seq.{drop-cons}
-use borrow.Author.Tests.{eq-eqb, ne_eqb}
+use lib.ListN.{length, get_or, take, drop}
+use borrow.Author.Tests.{ne_eqb}
 use Rattle.words.specs.Outcome.{Outcome, drawn, refused}
 use Rattle.words.specs.declared.Draw.{Draw}
-use Rattle.words.specs.Paper.{told}
+use Rattle.words.specs.declared.Refusal.{Refusal}
+use Rattle.words.specs.Paper.{Answer, paper, told, number_of}
+use Rattle.words.specs.Inner.{drew}
+use Rattle.words.proofs.Tape.{lent_from}
+use Rattle.std.specs.Prelude.{Ok, Err, ⊤}
+use Rattle.std.specs.Result.{result_eq}
+use Rattle.std.proofs.Common.{Fits, w8}
 use Rattle.words.specs.Refusals.{Condition, ◌on◌, given, First, NoneHolds}
 use Rattle.bytes_le.proofs.Numbers.{Bytes}
 use Rattle.draws.specs.Request.{draw_of}
 use Rattle.entry.specs.declared.Entry.{Entry}
-use Rattle.entry.specs.Entry.{entry_at, blank}
-use Rattle.layout.specs.Sound.{offset}
+use Rattle.entry.specs.Entry.{blank}
+use Rattle.layout.specs.Entries.{entries_from}
 use Rattle.opening.specs.Calls.{booked, limits}
 use Rattle.layout.specs.Book.{is_none}
-use Rattle.redraws.specs.Redraw.{agrees, lowest, redraw_refusals, Redrawing, naming, redraw_of, redraw}
-use Rattle.opening.proofs.Opening.{past_limits, stopped, open_read}
+use Rattle.redraws.specs.Redraw.{is_drawn, agrees, lowest, redraw_refusals, Redrawing, naming, redraw_of, redraw}
+use Rattle.opening.specs.Inner.{IsOpen, opened}
+use Rattle.layout.specs.declared.Standing.{Standing}
+use Rattle.opening.proofs.Opening.{past_limits, stopped, refused_opening, open_place, stands_all}
 
 -- ---- the limits' refusals are not 17
 
@@ -69,22 +75,26 @@ module _ (ws b : List ℕ) where
     unfolding later
     redraw_differs s e = sym (past ∙ ap later e)
 
--- ---- a turn: the first i agree
+-- ---- a turn over the entries that are left
 
-module _ (ws : List ℕ) (es : List Entry) (d : Entry) (i : ℕ) (l : i < length es) (same : lowest ws (drop i es) ≡ lowest ws es) where
-  at_front : lowest ws es ≡ cond (agrees ws (get_or es i d)) (lowest ws (drop (suc i) es)) (some (get_or es i d).serial)
+-- each has its place on a tape of t words
+unfoldable pub OnTape : ℕ → List Entry → Type 0
+OnTape t [] = ⊤
+OnTape t (e ∷ es) = (e.place ≤ t) × OnTape t es
+
+on_tape : (t : ℕ) (es : List Entry) (d : Entry) → ((i : ℕ) → i < length es → (get_or es i d).place ≤ t) → OnTape t es
+unfolding OnTape
+on_tape t [] d h = tt
+on_tape t (e ∷ es) d h = (h 0 (omega arith), on_tape t es d (λ i l. h (suc i) (omega arith)))
+
+module _ (s : List Entry) (e : Entry) (es : List Entry) (is : s ≡ e ∷ es) where
+  pub on_first : (t : ℕ) → OnTape t s → (e.place ≤ t) × OnTape t es
+  unfolding OnTape
+  on_first t h = rw is at h
+
+  at_front : (ws : List ℕ) → lowest ws s ≡ cond (agrees ws e) (lowest ws es) (some e.serial)
   unfolding lowest
-  at_front = sym same ∙ ap (lowest ws) (drop-cons es i d l)
-
-  pub turn_agrees : agrees ws (get_or es i d) ≡ true → lowest ws (drop (i + 1) es) ≡ lowest ws es
-  turn_agrees e = sym (at_front ∙ rw e (ap (λ (k : ℕ). lowest ws (drop k es)) (sym (add-one i))))
-
-  pub turn_differs : agrees ws (get_or es i d) ≡ false → lowest ws es ≡ some (get_or es i d).serial
-  turn_differs e = at_front ∙ rw e
-
-pub turns_done : (ws : List ℕ) (es : List Entry) (i : ℕ) → length es ≤ i → lowest ws (drop i es) ≡ lowest ws es → lowest ws es ≡ none
-unfolding lowest
-turns_done ws es i h same = sym same ∙ ap (lowest ws) (drop_of_length-le es h)
+  at_front ws = ap (lowest ws) is
 
 -- ---- the serial that is named: its entry does not agree, and every entry before it does
 
@@ -112,41 +122,49 @@ lowest_first ws (x ∷ es) d s e = go (lowest_first ws es d s) (agrees ws x) ref
         record { index = suc r.index; below = suc-le-suc r.below; named = r.named; differs = r.differs; earlier = before r.index t r.earlier }
     go rest false t q = record { index = 0; below = zero-lt-suc (length es); named = cc; differs = t; earlier = λ k l. absurd (not-suc-le-zero l) }
 
--- ---- one entry, by what it drew
+-- ---- one entry, by what it drew from the tape as it was lent
 
 module _ (ws : List ℕ) (e : Entry) where
-  pub agree_refused : (n : ℕ) → refused n ≡ draw_of e.request (drop e.place ws) → false ≡ agrees ws e
+  lent : (x : Outcome ℕ) → x ≡ draw_of e.request (take (length ws - e.place) (drop e.place ws)) → agrees ws e ≡ is_drawn e.count e.used x
   unfolding agrees
-  agree_refused n x = rw (← x)
+  lent x h = ap (is_drawn e.count e.used) (sym (h ∙ ap (draw_of e.request) (lent_from ws e.place)))
 
-  module _ (d : Draw) (x : told d ≡ draw_of e.request (drop e.place ws)) where
-    pub agree_count : (d.count ≡ e.count → ⊥) → false ≡ agrees ws e
-    unfolding agrees
-    agree_count n = rw (← x, ne_eqb d.count e.count n)
-
-    pub agree_used : d.count ≡ e.count → eqb d.used e.used ≡ agrees ws e
-    unfolding agrees
-    agree_used n = rw (← x, eq-eqb d.count e.count n)
+  -- by the derived `==` of an answer
+  pub agree_equal : (D : Draw → Draw → Bool) (E : Refusal → Refusal → Bool) → ((a b : Draw) → D a b ≡ (eqb a.count b.count && eqb a.used b.used)) → (b : Draw) → b ≡ drew e.count e.used
+      → (a : Answer) → paper a ≡ draw_of e.request (take (length ws - e.place) (drop e.place ws)) → result_eq D E a (Ok b) ≡ agrees ws e
+  agree_equal D E same b is (Ok d) h = same d b ∙ ap (λ (x : Draw). eqb d.count x.count && eqb d.used x.used) is ∙ sym (lent (told d) h)
+  agree_equal D E same b is (Err x) h = sym (lent (refused (number_of x)) h)
 
 -- ---- a turn over the bytes: what was read at `at`, and whether it agrees
 
-module _ (ws b : List ℕ) (by : Bytes b) (h : NoneHolds (limits ws b)) (i : ℕ) (l : i < length (booked ws b)) (at : ℕ) (ea : at ≡ offset b i)
-    (same : lowest ws (drop i (booked ws b)) ≡ lowest ws (booked ws b)) (e : Entry) (here : entry_at b at ≡ some e) (z : Bool) (ez : z ≡ agrees ws e) where
-  is : e ≡ get_or (booked ws b) i blank
-  is = open_read (length ws) b by h i l at e ea here
+module _ (ws b : List ℕ) where
+  pub redraw_refused : (n : ℕ) → refused n ≡ opened ws b → record { outcome = refused n; named = none } ≡ redraw ws b
+  redraw_refused n e = redraw_stopped ws b n (refused_opening ws b n e)
 
-  tested : agrees ws (get_or (booked ws b) i blank) ≡ z
-  tested = ap (agrees ws) (sym is) ∙ sym ez
+  module _ (st : Standing) (o : IsOpen ws b st) where
+    number : length (booked ws b) ≡ st.entries
+    number = ap (λ (x : Standing). x.entries) o.1
 
-  pub goes_on : z ≡ true → lowest ws (drop (i + 1) (booked ws b)) ≡ lowest ws (booked ws b)
-  goes_on y = turn_agrees ws (booked ws b) blank i l same (tested ∙ y)
+    -- the entries that are left at first are all
+    pub redraw_starts : ((i : ℕ) → Fits w8 (get_or b i 0)) → (s : List Entry) → s ≡ entries_from st.entries b 0
+        → OnTape (length ws) s × (lowest ws s ≡ lowest ws (booked ws b))
+    redraw_starts fits s e =
+        let by : Bytes b = λ i. (fits i).fits in
+        let is : s ≡ booked ws b = e ∙ (stands_all ws b st fits o).1 in
+        (rw is (on_tape (length ws) (booked ws b) blank (open_place (length ws) b by o.0)), ap (lowest ws) is)
 
-  pub differs_here : z ≡ false → record { outcome = refused 17; named = some e.serial } ≡ redraw ws b
-  differs_here n =
-      redraw_differs ws b h e.serial
-      (turn_differs ws (booked ws b) blank i l same (tested ∙ n) ∙ ap (λ (x : Entry). some x.serial) (sym is))
+    module _ (s : List Entry) (left : lowest ws s ≡ lowest ws (booked ws b)) where
+      pub goes_on : (e : Entry) (es : List Entry) → s ≡ e ∷ es → (z : Bool) → z ≡ agrees ws e → z ≡ true → lowest ws es ≡ lowest ws (booked ws b)
+      goes_on e es is z ez y = sym (at_front s e es is ws ∙ rw (← ez, y)) ∙ left
 
-pub all_agree : (ws b : List ℕ) → NoneHolds (limits ws b) → (n i : ℕ) → n ≡ length (booked ws b) → n ≤ i → lowest ws (drop i (booked ws b)) ≡ lowest ws (booked ws b)
-    → record { outcome = drawn n 0; named = none } ≡ redraw ws b
-all_agree ws b h n i en l same =
-    ap (λ (k : ℕ). record { outcome = drawn k 0; named = none }) en ∙ redraw_agrees ws b h (turns_done ws (booked ws b) i (omega arith) same)
+      pub differs_here : (e : Entry) (es : List Entry) → s ≡ e ∷ es → (z : Bool) → z ≡ agrees ws e → z ≡ false
+          → record { outcome = refused 17; named = some e.serial } ≡ redraw ws b
+      differs_here e es is z ez n = redraw_differs ws b o.0 e.serial (sym left ∙ at_front s e es is ws ∙ rw (← ez, n))
+
+      pub all_agree : s ≡ [] → record { outcome = drawn st.entries 0; named = none } ≡ redraw ws b
+      unfolding lowest
+      all_agree is =
+          ap (λ (k : ℕ). record { outcome = drawn k 0; named = none }) (sym number)
+          ∙ redraw_agrees ws b o.0 (sym left ∙ ap (lowest ws) is)
+
+pub ruleset turns = (redraw_refused, on_first, goes_on, all_agree)

@@ -1,6 +1,7 @@
 -- RULES, 'The book', Redraw, and 'Refusals': order 1, 11, 12, 17. The book is never changed. Assumes nothing.
-use Rattle.std.specs.Prelude.{ℕ, Bool, false, cond, not, ◌&&◌, List, [], ◌∷◌, ◌++◌, ◌≡◌, eqb, length, drop}
+use Rattle.std.specs.Prelude.{ℕ, Bool, false, cond, not, ◌&&◌, List, [], ◌∷◌, ◌++◌, Result, Ok, Err, ◌≡◌, eqb, length, drop}
 use Rattle.std.proofs.Math.Option.{Option, none, some}
+use Rattle.words.specs.declared.Refusal.{Refusal}
 use Rattle.words.specs.Outcome.{Outcome, drawn, refused}
 use Rattle.words.specs.Refusals.{Condition, ◌on◌, given}
 use Rattle.words.specs.Draw.{ends_by}
@@ -8,7 +9,7 @@ use Rattle.words.specs.Paper.{number_of}
 use Rattle.draws.specs.Request.{draw_of}
 use Rattle.entry.specs.declared.Entry.{Entry}
 use Rattle.redraws.specs.declared.Redrawn.{Redrawn}
-use Rattle.redraws.specs.declared.Redrawn.TheVariants.{Agrees, Differs, Refused}
+use Rattle.redraws.specs.declared.Redrawn.TheVariants.{Agrees, Differs}
 use Rattle.opening.specs.Calls.{booked, limits}
 use Rattle.layout.specs.Book.{is_none}
 
@@ -45,12 +46,12 @@ redraw_of ws b es = naming (given (redraw_refusals ws b es) (drawn (length es) 0
 unfoldable pub redraw : List ℕ → List ℕ → Redrawing
 redraw ws b = redraw_of ws b (booked ws b)
 
--- the enum in the rules' terms: 17 names its serial; nothing is lost (`one_redrawn`)
-abbrev pub redrawn : Redrawn → Redrawing
-redrawn (Agrees n) = record { outcome = drawn n 0; named = none }
-redrawn (Differs s) = record { outcome = refused 17; named = some s }
-redrawn (Refused x) = record { outcome = refused (number_of x); named = none }
+-- what a redraw answers, in the rules' terms: 17 names its serial; nothing is lost (`one_redrawn`)
+abbrev pub redrawn : Result Redrawn Refusal → Redrawing
+redrawn (Ok (Agrees n)) = record { outcome = drawn n 0; named = none }
+redrawn (Ok (Differs s)) = record { outcome = refused 17; named = some s }
+redrawn (Err x) = record { outcome = refused (number_of x); named = none }
 
 -- The contract of `redraw`: over the words ws and the book b, the answer a is the rule's. The book can't be written.
-abbrev pub RedrawAllows : List ℕ → List ℕ → Redrawn → Type 0
+abbrev pub RedrawAllows : List ℕ → List ℕ → Result Redrawn Refusal → Type 0
 RedrawAllows ws b a = redrawn a ≡ redraw ws b

@@ -1,3 +1,3 @@
-pub mod Parting
-pub mod Ending
 pub mod Whole
+pub mod Ending
+pub mod Texts

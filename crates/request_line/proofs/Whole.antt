@@ -1,4 +1,5 @@
 -- What a line's end does: with either end the text is read, and without a newline nothing is. Assumes nothing.
+use Rattle.std.specs.Prelude.{None}
 use mathlib.Core.Path.{◌≡◌, sym, ap, ◌∙◌}
 use mathlib.Core.Bool.{and-false}
 use mathlib.Core.List.{List, [], ◌∷◌, ◌++◌}
@@ -9,12 +10,11 @@ use lib.ListN.{length, length-append}
 use borrow.Author.Tests.{eq-eqb, ne_eqb, le-leb, lt-leb}
 use Rattle.numerals.specs.Split.{up_to}
 use Rattle.parted.proofs.Lacking.{lacks, up_to_first, up_to_none, lacks_append}
-use Rattle.request_line.specs.declared.Line.TheVariants.{Unread}
 use Rattle.request_line.specs.Ends.{newline, carriage_return, before_newline, text_of, is_line}
 use Rattle.request_line.specs.Forms.{read_text, read_line}
 
 -- a line without its newline is no line
-pub cut_off : (l : List ℕ) → T (lacks newline l) → read_line l ≡ Unread
+pub cut_off : (l : List ℕ) → T (lacks newline l) → read_line l ≡ None
 unfolding read_line is_line
 cut_off l t =
     let all : length (before_newline l) ≡ length l = ap length (up_to_none newline l t) in
@@ -49,7 +49,7 @@ module _ (t : List ℕ) (n : T (lacks newline t)) (r : T (lacks carriage_return 
     long = omega (arith, length-append t (carriage_return ∷ u))
 
     -- is unread
-    pub return_within : 0 < length u → read_line (before ++ (newline ∷ [])) ≡ Unread
+    pub return_within : 0 < length u → read_line (before ++ (newline ∷ [])) ≡ None
     unfolding read_line is_line
     return_within h = rw (before_is, text_is, lt-leb (length before) (length t + 1) (omega (arith, long)), and-false)
 

@@ -1,7 +1,7 @@
 -- 31 squarings bring q to 0.5 or below exactly where q is not above 0.9999999996772282, `most_q`. Squaring keeps the order, so what q comes
 -- to lies between what the floats beside the edge come to, and those are computed. Assumes nothing.
-use mathlib.Core.Path.{◌≡◌, refl, sym, ap, ◌∙◌}
-use mathlib.Core.Bool.{Bool, true, false, not, ◌&&◌, ◌||◌, true≢false, false≢true}
+use mathlib.Core.Path.{◌≡◌, refl, sym, ap, ◌∙◌, subst}
+use mathlib.Core.Bool.{Bool, true, false, not, ◌&&◌, true≢false, false≢true}
 use mathlib.Core.Logic.{◌⊎◌, inl, inr}
 use Prim.Native.Nat.{ℕ, zero, suc, ◌+◌, ◌-◌, ◌*◌, ◌%◌, ◌^◌, ◌≤◌, ◌<◌}
 use native.Mathlib.Nat.{zero-lt-suc, add-sub_of_le, mul_assoc, mul_right_comm, mul-le-mul_right}
@@ -16,6 +16,7 @@ use lib.Ieee.Bits.{is_true, is_false}
 use lib.Ieee.Fits.{down_pos, and_l, and_r}
 use lib.Ieee.Order.{round_mono}
 use lib.Ieee.Positive.{num, den, den_pos, positive, above, le→cross, cross→le, between, above_of_le, mul_mono, first_pos}
+use Rattle.std.proofs.lemmas.Bool.{or_left, or_parts}
 use Rattle.words.specs.Words.{ratio}
 use Rattle.search.specs.Squares.{half, squaring, squares}
 
@@ -145,13 +146,9 @@ pub record Within (n : ℕ) (x : Float) : Type 0 where
   pub ended : T (ends n hi)
   pub below : lt half x ≡ true → T (le x hi)
 
-or_left : (a b : Bool) → a ≡ true → T (a || b)
-or_left true b e = tt
-or_left false b e = absurd (false≢true e)
-
 le_of_lt : (x y : Float) → lt x y ≡ true → T (le x y)
 unfolding le
-le_of_lt x y h = or_left (lt x y) _ h
+le_of_lt x y h = subst T (sym (or_left (lt x y) _ h)) tt
 
 -- where x is above 0.5, it is finite
 within_positive : (n : ℕ) (x : Float) (w : Within n x) → lt half x ≡ true → T (positive x)
@@ -304,10 +301,6 @@ one = fin false 1 (pos 0)
 abbrev two_thirds : Float
 two_thirds = fin false 6004799503160661 (negsuc 52)
 
-or_none : (a b : Bool) → a || b ≡ false → a ≡ false
-or_none true b e = absurd (true≢false e)
-or_none false b e = refl
-
 -- 1 - p for a p below 0 and for one from 0 to 1
 module _ (n : ℕ) (d : ℤ) where
   one_more : sub binary64 one (fin true n d) ≡ ratio (1 * down d + n * up d * 1) (1 * down d)
@@ -323,7 +316,7 @@ module _ (n : ℕ) (d : ℤ) where
   at_most_two_thirds h =
       let a = 6004799503160661 * 1 * down d in
       let b = n * up d * 2 ^ 53 in
-      ltb-false a b (or_none (ltb a b) _ h)
+      ltb-false a b (or_parts (ltb a b) _ h).0
 
 from_one : (p : Float) → le two_thirds p ≡ false → lt (sub binary64 one p) (ratio 1 4) ≡ false
 unfolding lt le sub

@@ -5,7 +5,7 @@ use mathlib.Core.List.{List}
 use Prim.Native.Nat.{ℕ, ◌+◌}
 use lib.ListN.{drop}
 use lib.Ieee.{Float, lt}
-use Rattle.words.specs.declared.Word.TheVariants.{Is}
+use Rattle.std.proofs.Common.{Some}
 use Rattle.words.specs.Words.{fraction_of}
 use Rattle.words.specs.Inner.{word_at}
 use Rattle.words.specs.Outcome.{Outcome}
@@ -17,7 +17,7 @@ module _ (q : Float) (span : ℕ) (pi : Float) (ws : List ℕ) (d w : ℕ) (f : 
   abbrev rule : Rule Search ℕ
   rule = search_rule q span pi
 
-  module _ (so_far : reading rule ws ≡ read rule (drop d ws) (more (first_run d)) d) (there : word_at ws d ≡ Is w) (is : f ≡ fraction_of w) where
+  module _ (so_far : reading rule ws ≡ read rule (drop d ws) (more (first_run d)) d) (there : word_at ws d ≡ Some w) (is : f ≡ fraction_of w) where
     pub run_on : lt f pi ≡ true → reading rule ws ≡ read rule (drop (d + 1) ws) (more (first_run (d + 1))) (d + 1)
     run_on h = so_far ∙ read_at rule ws d w (first_run d) d there ∙ simp (← is, h)
 

@@ -3,6 +3,7 @@ use mathlib.Core.Path.{◌≡◌, refl, ap, sym, subst, ◌∙◌}
 use mathlib.Core.Bool.{Bool, false}
 use mathlib.Core.List.{List, []}
 use Prim.Native.Nat.{ℕ}
+use Rattle.std.proofs.Common.{Option, Some, None}
 use native.Mathlib.Omega.{arith}
 use lib.Dec.{eqb}
 use lib.ListN.{length}
@@ -18,7 +19,7 @@ use Rattle.book.specs.Strike.{strike_in, strike}
 use Rattle.redraws.specs.Redraw.{Redrawing}
 use Rattle.writing.specs.Writing.{Writes}
 use Rattle.request_line.specs.declared.Line.{Line}
-use Rattle.request_line.specs.declared.Line.TheVariants.{Deliver, Strike, StrikeFrom, Redraw, Passed, Unread}
+use Rattle.request_line.specs.declared.Line.TheVariants.{Deliver, Strike, StrikeFrom, Redraw, Passed}
 use Rattle.request_line.specs.Forms.{read_line}
 use Rattle.answer_lines.specs.Answers.{delivery_line, strike_line, redraw_line}
 use Rattle.service.specs.StrikeFrom.{strike_from}
@@ -49,9 +50,9 @@ module _ (out after b : List ℕ) (n : ℕ) (c : Bool) where
   redraw_met o k e w = subst (λ (x : Redrawing). Meets out (serving (redraw_line x) b c) n c b after) e (met (redraw_line o) w)
 
   -- a line's call is that of what it is read as
-  pub line_met : (ws b₀ l : List ℕ) (k : ℕ) (v : Line) → read_line l ≡ v → Meets out (answered ws b₀ k v) n c b after → Meets out (serve ws b₀ k l) n c b after
+  pub line_met : (ws b₀ l : List ℕ) (k : ℕ) (v : Option Line) → read_line l ≡ v → Meets out (answered ws b₀ k v) n c b after → Meets out (serve ws b₀ k l) n c b after
   unfolding serve
-  line_met ws b₀ l k v e m = subst (λ (x : Line). Meets out (answered ws b₀ k x) n c b after) (sym e) m
+  line_met ws b₀ l k v e m = subst (λ (x : Option Line). Meets out (answered ws b₀ k x) n c b after) (sym e) m
 
 -- ---- what need not be written
 
@@ -70,14 +71,14 @@ module _ (b : List ℕ) where
       (ap (λ (x : Service). x.changed) (sym (from_standing ws b j m (eqb-true (length (booked ws b)) m t))) ∙ e))
       (λ _. refl)
 
-  answer_unchanged : (ws : List ℕ) (k : ℕ) (v : Line) → (answered ws b k v).changed ≡ false → (answered ws b k v).book ≡ b
+  answer_unchanged : (ws : List ℕ) (k : ℕ) (v : Option Line) → (answered ws b k v).changed ≡ false → (answered ws b k v).book ≡ b
   unfolding deliver deliver_to strike strike_in
-  answer_unchanged ws k (Deliver s r) e = delivery_unchanged (deliver ws b s r).outcome (standing (booked ws b)) r e
-  answer_unchanged ws k (Strike j) e = strike_unchanged b (strike ws b j).outcome (booked ws b) j e
-  answer_unchanged ws k (StrikeFrom j m) e = from_unchanged ws j m e
-  answer_unchanged ws k Redraw e = refl
-  answer_unchanged ws k Passed e = refl
-  answer_unchanged ws k Unread e = refl
+  answer_unchanged ws k (Some (Deliver s r)) e = delivery_unchanged (deliver ws b s r).outcome (standing (booked ws b)) r e
+  answer_unchanged ws k (Some (Strike j)) e = strike_unchanged b (strike ws b j).outcome (booked ws b) j e
+  answer_unchanged ws k (Some (StrikeFrom j m)) e = from_unchanged ws j m e
+  answer_unchanged ws k (Some Redraw) e = refl
+  answer_unchanged ws k (Some Passed) e = refl
+  answer_unchanged ws k None e = refl
 
   -- a line that is not said to change the book leaves it as it was
   pub unchanged : (ws l : List ℕ) (k : ℕ) → (serve ws b k l).changed ≡ false → (serve ws b k l).book ≡ b

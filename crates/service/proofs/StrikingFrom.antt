@@ -9,6 +9,7 @@ use lib.Dec.{eqb, ltb}
 use lib.ListN.{length, drop}
 use lib.Seq.{take_all}
 use borrow.Author.Tests.{eq-eqb, ne_eqb, eqb-true, lt-ltb, le-ltb, ltb-true, ltb-false, not-false}
+use Rattle.std.proofs.Common.{Result, Ok, Err}
 use Rattle.words.specs.Outcome.{Outcome, drawn, refused}
 use Rattle.words.specs.declared.Refusal.{Refusal}
 use Rattle.words.specs.Paper.{number_of}
@@ -22,8 +23,6 @@ use Rattle.layout.specs.Book.{length_all}
 use Rattle.layout.proofs.Decoding.{by-test}
 use Rattle.opening.specs.Calls.{Call, call, booked, limits}
 use Rattle.opening.proofs.Opening.{past_limits, stopped}
-use Rattle.book.specs.declared.Struck.{Struck}
-use Rattle.book.specs.declared.Struck.TheVariants.{Left, Refused}
 use Rattle.book.specs.Strike.{strike_refusals, left_by, after_strike, strike_in, strike, struck}
 use Rattle.book.proofs.Striking.{strike_stopped, strike_many}
 use Rattle.writing.specs.Writing.{Writes}
@@ -195,18 +194,18 @@ module _ (ws b out after : List ℕ) (n j m : ℕ) where
           (ap (λ (x : Bool). x && is_struck j (drawn (kept s) 0)) (ne_eqb _ m elsewhere)) w
 
 -- the strike of 0, as the call answers it: a, with the book c after it
-module _ (ws b c : List ℕ) (a : Struck) (e : call (struck a) c ≡ strike ws b 0) where
+module _ (ws b c : List ℕ) (a : Result ℕ Refusal) (e : call (struck a) c ≡ strike ws b 0) where
   after_zero : c ≡ b
   after_zero = ap (λ (x : Call ℕ). x.book) e ∙ zero_keeps ws b
 
-  pub zero_again : (s : ℕ) → a ≡ Left s → (strike ws c 0).outcome ≡ drawn s 0
+  pub zero_again : (s : ℕ) → a ≡ Ok s → (strike ws c 0).outcome ≡ drawn s 0
   zero_again s q = rw after_zero (ap (λ (x : Call ℕ). x.outcome) (sym e) ∙ ap struck q)
 
   module _ (out after : List ℕ) (n j m : ℕ) where
     pub accepted_met : (h : Bool) (d : List ℕ) → Meets out (struck_from ws c j m) n h d after → Meets out (struck_from ws b j m) n h d after
     accepted_met h d w = subst (λ (x : List ℕ). Meets out (struck_from ws x j m) n h d after) after_zero w
 
-    pub refused_met : (x : Refusal) → a ≡ Refused x → Writes out 0 (refusal_line (number_of x)) after n → Meets out (struck_from ws b j m) n false c after
+    pub refused_met : (x : Refusal) → a ≡ Err x → Writes out 0 (refusal_line (number_of x)) after n → Meets out (struck_from ws b j m) n false c after
     refused_met x q w =
         subst (λ (d : List ℕ). Meets out (struck_from ws b j m) n false d after) (sym after_zero)
         (stopped_met ws b out after n j m (number_of x) (ap (λ (y : Call ℕ). y.outcome) (sym e) ∙ ap struck q) w)

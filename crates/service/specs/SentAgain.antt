@@ -1,5 +1,5 @@
 -- RULES, 'Lines of pull': why a strike from a number of entries may be sent again. Assumes nothing.
-use Rattle.std.specs.Prelude.{ℕ, ◌<◌, List, ◌≡◌, length, get_or}
+use Rattle.std.specs.Prelude.{ℕ, ◌<◌, List, Some, ◌≡◌, length, get_or}
 use Rattle.opening.specs.Calls.{booked}
 use Rattle.request_line.specs.declared.Line.TheVariants.{Strike, StrikeFrom}
 use Rattle.request_line.specs.Forms.{read_line}
@@ -16,8 +16,8 @@ SameAgain ws b l =
 
 -- over any tape and any bytes, of a line that is read as a strike of j from m
 pub record SentAgain : Type 0 where
-  pub same : (ws b l : List ℕ) (j m : ℕ) → AreBytes b → read_line l ≡ StrikeFrom j m → SameAgain ws b l
+  pub same : (ws b l : List ℕ) (j m : ℕ) → AreBytes b → read_line l ≡ Some (StrikeFrom j m) → SameAgain ws b l
   -- where m entries stand, all that comes of it is what comes of a strike of j
-  pub strikes : (ws b : List ℕ) (k j m : ℕ) → length (booked ws b) ≡ m → answered ws b k (StrikeFrom j m) ≡ answered ws b k (Strike j)
+  pub strikes : (ws b : List ℕ) (k j m : ℕ) → length (booked ws b) ≡ m → answered ws b k (Some (StrikeFrom j m)) ≡ answered ws b k (Some (Strike j))
   -- where another number stands, no byte changes
-  pub keeps : (ws b : List ℕ) (k j m : ℕ) → (length (booked ws b) ≡ m → ⊥) → (answered ws b k (StrikeFrom j m)).book ≡ b
+  pub keeps : (ws b : List ℕ) (k j m : ℕ) → (length (booked ws b) ≡ m → ⊥) → (answered ws b k (Some (StrikeFrom j m))).book ≡ b

@@ -1,6 +1,6 @@
 -- RULES, 'Lines of pull': what comes of one line, that is what is said, the book after it, and whether the book has to be written.
 -- Assumes nothing.
-use Rattle.std.specs.Prelude.{ℕ, Bool, true, false, not, ◌&&◌, List, [], ◌≡◌, eqb, length}
+use Rattle.std.specs.Prelude.{ℕ, Bool, true, false, Option, Some, None, not, ◌&&◌, List, [], ◌≡◌, eqb, length}
 use Rattle.words.specs.Outcome.{Outcome, drawn, refused}
 use Rattle.opening.specs.Calls.{Call, booked}
 use Rattle.book.specs.Deliver.{Booking, fresh, copy, deliver}
@@ -8,7 +8,7 @@ use Rattle.book.specs.Strike.{strike}
 use Rattle.redraws.specs.Redraw.{redraw}
 use Rattle.writing.specs.Writing.{Writes}
 use Rattle.request_line.specs.declared.Line.{Line}
-use Rattle.request_line.specs.declared.Line.TheVariants.{Deliver, Strike, StrikeFrom, Redraw, Passed, Unread}
+use Rattle.request_line.specs.declared.Line.TheVariants.{Deliver, Strike, StrikeFrom, Redraw, Passed}
 use Rattle.request_line.specs.Forms.{read_line}
 use Rattle.answer_lines.specs.Answers.{delivery_line, strike_line, redraw_line, unread_line}
 use Rattle.service.specs.StrikeFrom.{Striking, strike_from_line, strike_from}
@@ -49,13 +49,13 @@ abbrev pub struck_from : List ℕ → List ℕ → ℕ → ℕ → Service
 struck_from ws b j m = striking_from (eqb (length (booked ws b)) m) j (strike_from ws b j m)
 
 -- the call that a line asks for, over the words ws and the book b; a line that can't be read calls nothing, and is named by its number k
-abbrev pub answered : List ℕ → List ℕ → ℕ → Line → Service
-answered ws b k (Deliver s r) = delivering s (deliver ws b s r)
-answered ws b k (Strike j) = striking j (strike ws b j)
-answered ws b k (StrikeFrom j m) = struck_from ws b j m
-answered ws b k Redraw = serving (redraw_line (redraw ws b)) b false
-answered ws b k Passed = serving [] b false
-answered ws b k Unread = serving (unread_line k) b false
+abbrev pub answered : List ℕ → List ℕ → ℕ → Option Line → Service
+answered ws b k (Some (Deliver s r)) = delivering s (deliver ws b s r)
+answered ws b k (Some (Strike j)) = striking j (strike ws b j)
+answered ws b k (Some (StrikeFrom j m)) = struck_from ws b j m
+answered ws b k (Some Redraw) = serving (redraw_line (redraw ws b)) b false
+answered ws b k (Some Passed) = serving [] b false
+answered ws b k None = serving (unread_line k) b false
 
 unfoldable pub serve : List ℕ → List ℕ → ℕ → List ℕ → Service
 serve ws b k l = answered ws b k (read_line l)

@@ -1,7 +1,7 @@
 // One line of the pull service: it is read, its call is made, and its answer is a line of bytes.
 #![tactic(auto)]
 
-ghost use Rattle.std.specs.Prelude.{◌≡◌};
+ghost use Rattle.std.specs.Prelude.{◌≡◌, false};
 ghost use Rattle.words.specs.Outcome.{drawn};
 ghost use Rattle.book.specs.Deliver.{delivered};
 ghost use Rattle.book.specs.Deliver as deliveries;
@@ -12,37 +12,43 @@ ghost use Rattle.service.specs.Service.{Meets, ServeAllows, delivering, is_fresh
 use answer_lines::{
     ANSWER_BYTES, delivered_line, kept_line, redrawn_line, struck_line, unread_line,
 };
-use book::{Delivered, Struck};
+use book::Delivered;
 use kinds::Request;
 use request_line::Line;
 use words::Refusal;
 
-// How many bytes of an answer there are, none where there is nothing to say; and whether the book has to be written before them.
+// How many bytes of an answer there are, none where there is nothing to say; and whether the book has to be written before them. Both are told of
+// every line, a refused one too.
 #[derive(Clone, Copy)]
 pub struct Served {
     pub length: usize,
     pub changed: bool,
 }
 
-fn is_fresh(answer: Delivered) -> bool
+// An answer of so many bytes to a call that left the book as it was.
+fn unchanged(length: usize) -> Served
+    ensures { (result.length ≡ length) × (result.changed ≡ false) }
+{
+    Served {
+        length,
+        changed: false,
+    }
+}
+
+fn is_fresh(answer: Result<Delivered, Refusal>) -> bool
     ensures { result ≡ is_fresh (delivered answer) }
 {
-    match answer {
-        Delivered::Fresh(_) => true,
-        Delivered::Copy(_) => false,
-        Delivered::Refused(_) => false,
-    }
+    matches!(answer, Ok(Delivered::Fresh(_)))
 }
 
-fn is_struck(j: u64, answer: Struck) -> bool
+fn is_struck(j: u64, answer: Result<u64, Refusal>) -> bool
     ensures { result ≡ is_struck j (struck answer) }
 {
-    match answer {
-        Struck::Left { entries: _ } => j != 0,
-        Struck::Refused(_) => false,
-    }
+    answer.is_ok() && j != 0
 }
 
+// The tape, the book and the bytes for the answer are handed on as they are lent, and not in one struct: contracts speak of the book and of those bytes
+// at entry and at exit, each by itself (`Meets`).
 fn deliver(
     tape: &[u64],
     book: &mut [u8],
@@ -81,27 +87,15 @@ fn strike_standing(
     ensures { Meets out.old (struck_from tape.now book.old j entries) result.length result.changed book.new out.new }
 {
     if entries < j {
-        let length = struck_line(Struck::Refused(Refusal::StrikeTooMany), out);
-        return Served {
-            length,
-            changed: false,
-        };
+        return unchanged(struck_line(Err(Refusal::StrikeTooMany), out));
     }
     if standing == entries {
         return strike(tape, book, j, out);
     }
     if standing == entries - j {
-        let length = struck_line(Struck::Left { entries: standing }, out);
-        return Served {
-            length,
-            changed: false,
-        };
+        return unchanged(struck_line(Ok(standing), out));
     }
-    let length = kept_line(standing, out);
-    Served {
-        length,
-        changed: false,
-    }
+    unchanged(kept_line(standing, out))
 }
 
 // A strike from a number of entries. A strike of 0 changes nothing, and answers how many stand.
@@ -115,16 +109,8 @@ fn strike_from(
     ensures { Meets out.old (struck_from tape.now book.old j entries) result.length result.changed book.new out.new }
 {
     match book::strike(tape, book, 0) {
-        Struck::Left { entries: standing } => {
-            strike_standing(tape, book, standing, j, entries, out)
-        }
-        Struck::Refused(refusal) => {
-            let length = struck_line(Struck::Refused(refusal), out);
-            Served {
-                length,
-                changed: false,
-            }
-        }
+        Ok(standing) => strike_standing(tape, book, standing, j, entries, out),
+        Err(refusal) => unchanged(struck_line(Err(refusal), out)),
     }
 }
 
@@ -139,26 +125,11 @@ pub fn serve(
     ensures { ServeAllows tape.now book.old number line.now out.old result.length result.changed book.new out.new }
 {
     match request_line::read(line) {
-        Line::Deliver { serial, request } => deliver(tape, book, serial, request, out),
-        Line::Strike { j } => strike(tape, book, j, out),
-        Line::StrikeFrom { j, entries } => strike_from(tape, book, j, entries, out),
-        Line::Redraw => {
-            let length = redrawn_line(redraws::redraw(tape, book), out);
-            Served {
-                length,
-                changed: false,
-            }
-        }
-        Line::Passed => Served {
-            length: 0,
-            changed: false,
-        },
-        Line::Unread => {
-            let length = unread_line(number, out);
-            Served {
-                length,
-                changed: false,
-            }
-        }
+        Some(Line::Deliver { serial, request }) => deliver(tape, book, serial, request, out),
+        Some(Line::Strike { j }) => strike(tape, book, j, out),
+        Some(Line::StrikeFrom { j, entries }) => strike_from(tape, book, j, entries, out),
+        Some(Line::Redraw) => unchanged(redrawn_line(redraws::redraw(tape, book), out)),
+        Some(Line::Passed) => unchanged(0),
+        None => unchanged(unread_line(number, out)),
     }
 }

@@ -8,44 +8,44 @@ ghost use Rattle.words.specs.Draw.{DrawAllows};
 ghost use Rattle.words.specs.Paper.{paper};
 ghost use Rattle.standard_geometric.specs.Standard.{standard_rule, standard_geometric};
 
-use words::{Answer, Draw, Refusal, Word};
+use words::{Answer, Draw, Refusal};
 
 // The draw: p is one half, and each leading zero bit a failure. All but one in 2^64 draws end with their first word.
 pub fn sample(tape: &[u64]) -> Answer
     ensures { DrawAllows standard_geometric tape.now result }
 {
     if words::too_long(tape) {
-        return Answer::Refused(Refusal::TapeTooLong);
+        return Err(Refusal::TapeTooLong);
     }
-    let Word::Is(w) = words::word_at(tape, 0) else {
-        return Answer::Refused(Refusal::Exhausted);
-    };
+    let w = words::word_at(tape, 0).ok_or(Refusal::Exhausted)?;
     if w == 0 {
         return sample_after_zero(tape);
     }
-    let count = u64::leading_zeros(w) as u64;
-    Answer::Drawn(Draw { count, used: 1 })
+    let count = u64::from(w.leading_zeros());
+    Ok(Draw { count, used: 1 })
 }
 
-// The same draw from its second word on, where the first is 0: that has 64 leading zeros.
+// The same draw from its second word on, where the first is 0: that has 64 leading zeros. It stands apart, since hardly a draw gets here: with the
+// first word in this loop each draw costs six instructions more, 37.1 for 31.1.
+// That the tape keeps to its limit is asked for: a type that says it would be made for one draw, and taken apart again by word_at, which takes
+// the words as they are lent.
 fn sample_after_zero(tape: &[u64]) -> Answer
     requires { length tape.now ≤ most_words }
     ensures { paper result ≡ read standard_rule (drop 1 tape.now) (more 64) 1 }
 {
     let mut result: u64 = 64;
-    let mut i: usize = 1;
+    let mut used: usize = 1;
     loop {
-        let Word::Is(w) = words::word_at(tape, i) else {
-            return Answer::Refused(Refusal::Exhausted);
-        };
-        let x = u64::leading_zeros(w) as u64;
+        let w = words::word_at(tape, used).ok_or(Refusal::Exhausted)?;
+        let x = u64::from(w.leading_zeros());
         result += x;
-        i += 1;
+        used += 1;
         if x < 64 {
-            return Answer::Drawn(Draw {
-                count: result,
-                used: i,
-            });
+            break;
         }
     }
+    Ok(Draw {
+        count: result,
+        used,
+    })
 }

@@ -1,7 +1,7 @@
-// Comparing a draw here with the Rust's, and with another draw here.
+// Comparing a draw here with the Rust's.
 use judge::{Said, Verdict, judge};
-use kinds::{Request, parts_of};
-use words::{Answer, number};
+use kinds::Request;
+use words::Answer;
 
 // The entry of docs/DIFFERENCES.md for a count of the Rust that is outside the support.
 const PAST_SUPPORT: u64 = 1;
@@ -12,55 +12,39 @@ const MOST_COUNT: u64 = 0x7fff_ffff_ffff_ffff;
 // The verdict on a draw. Where the Rust walked past the support, the draw here has to stand at the end that it passed.
 pub(crate) fn compare(request: Request, here: Answer, rust: Said) -> Verdict {
     match judge(request, here, rust) {
-        Verdict::Agrees => Verdict::Agrees,
-        Verdict::Differs => Verdict::Differs,
-        Verdict::Listed { entry } => {
-            if entry == PAST_SUPPORT && !is_at_end(request, here, rust) {
-                Verdict::Differs
-            } else {
-                Verdict::Listed { entry }
-            }
-        }
+        Verdict::Listed {
+            entry: PAST_SUPPORT,
+        } if !is_at_end(request, here, rust) => Verdict::Differs,
+        verdict => verdict,
     }
 }
 
 fn is_at_end(request: Request, here: Answer, rust: Said) -> bool {
-    let Answer::Drawn(drawn) = here else {
+    let Request::Hypergeometric {
+        total,
+        marked,
+        sample,
+    } = request
+    else {
         return false;
     };
-    let Said::Drew(drew) = rust else {
+    let (Ok(drawn), Ok(drew)) = (here, rust) else {
         return false;
     };
-    let tray = parts_of(request);
-    drawn.count == end_passed(tray.first, tray.second, tray.third, drew.count)
+    drawn.count == end_passed(total, marked, sample, drew.count)
 }
 
 // The end of a tray's support that the Rust passed with this count: as many as the smaller of marked and sampled, or as many as the sample
 // has beyond the unmarked.
 fn end_passed(total: u64, marked: u64, sample: u64, count: u64) -> u64 {
-    let most = if marked < sample { marked } else { sample };
+    let most = marked.min(sample);
     if marked > total {
         return most;
     }
-    let unmarked = total - marked;
-    let least = if sample > unmarked {
-        sample - unmarked
-    } else {
-        0
-    };
+    let least = sample.saturating_sub(total - marked);
     if count < least || count > MOST_COUNT {
         least
     } else {
         most
-    }
-}
-
-// An answer here in the place of the Rust's, for another to be held against.
-pub(crate) fn as_said(answer: Answer) -> Said {
-    match answer {
-        Answer::Drawn(draw) => Said::Drew(draw),
-        Answer::Refused(refusal) => Said::Stopped {
-            number: number(refusal),
-        },
     }
 }

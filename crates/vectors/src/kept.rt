@@ -1,116 +1,71 @@
 // Draws from a kept tray: one that is set up once, and drawn from many times.
-ghost use Rattle.hypergeometric.specs.SetUp.{FromSetUp};
-
-use crate::cases::Head;
+use crate::cases::{Case, Unread};
 use crate::compare::compare;
-use crate::single::hold;
-use crate::tally::{KEPT, TALLY, note};
-use hypergeometric::{Hypergeometric, SetUp};
-use judge::{Said, Verdict, is_same};
+use crate::tally::{Group, Tally};
+use hypergeometric::Hypergeometric;
+use judge::{Verdict, is_same};
 use kinds::Request;
-use words::{Answer, Draw};
+use words::{Draw, Refusal};
 
-// Sets the tray up, and draws from it again. Whether the case could be read.
-pub(crate) fn draw_kept(
-    rt: &impl Print,
-    head: Head,
-    pairs: &[u64],
-    tally: &mut [u64; TALLY],
-) -> bool {
-    let rust = head.rust;
+// Sets the tray up, and draws from it again.
+pub(crate) fn draw_kept<P: Print>(case: Case<'_>, tally: &mut Tally<P>) -> Result<(), Unread> {
     let request = Request::Hypergeometric {
-        total: head.first,
-        marked: head.second,
-        sample: head.third,
+        total: case.first,
+        marked: case.second,
+        sample: case.third,
     };
-    let s = hypergeometric::set_up(head.first, head.second, head.third);
-    match s {
-        SetUp::Ready(kept) => draw_ready(rt, request, kept, rust, pairs, tally),
-        SetUp::Refused(refusal) => {
-            hold(rt, head, request, KEPT, Answer::Refused(refusal), tally);
-            true
+    match hypergeometric::set_up(case.first, case.second, case.third) {
+        Ok(kept) => draw_ready(case, request, kept, tally),
+        Err(refusal) => {
+            tally.hold(case, request, Group::Kept, Err(refusal));
+            Ok(())
         }
     }
 }
 
-fn draw_ready(
-    rt: &impl Print,
+fn draw_ready<P: Print>(
+    case: Case<'_>,
     request: Request,
     kept: Hypergeometric,
-    rust: Said,
-    pairs: &[u64],
-    tally: &mut [u64; TALLY],
-) -> bool
-    requires { FromSetUp kept }
-{
-    // over no word it has to be refused: the tape has ended
+    tally: &mut Tally<P>,
+) -> Result<(), Unread> {
+    // over no word it has to be refused: the tape has ended. (tests/vectors changes this slice in a copy of the program, so that it has a word.)
     let tape = [0u64];
     let here = hypergeometric::sample_from(&tape[..0], kept);
-    let due = Said::Stopped { number: 10 };
+    let due = Err(u32::from(Refusal::Exhausted));
     if !is_same(here, due) {
-        note(
-            rt,
-            tally,
-            KEPT,
-            Verdict::Differs,
-            here,
-            b" over no word ",
-            due,
-        );
+        tally.note(Group::Kept, Verdict::Differs, here, "over no word", due);
     }
-    match rust {
-        Said::Drew(_) => draw_pairs(rt, request, kept, pairs, tally),
-        Said::Stopped { number: _ } => {
-            // the Rust stopped at a tray that is set up here
-            let here = Answer::Drawn(Draw { count: 0, used: 0 });
-            note(rt, tally, KEPT, Verdict::Differs, here, b" rust ", rust);
-            true
-        }
+    if case.rust.is_err() {
+        // the Rust stopped at a tray that is set up here: nothing is drawn, and a count of 0 over no word stands for the set-up
+        let here = Ok(Draw { count: 0, used: 0 });
+        tally.note(Group::Kept, Verdict::Differs, here, "rust", case.rust);
+        return Ok(());
     }
+    draw_pairs(request, kept, case.tape, tally)
 }
 
 // Pairs of a word and the Rust's count over it.
-fn draw_pairs(
-    rt: &impl Print,
+fn draw_pairs<P: Print>(
     request: Request,
     kept: Hypergeometric,
     pairs: &[u64],
-    tally: &mut [u64; TALLY],
-) -> bool
-    requires { FromSetUp kept }
-{
-    let mut at: usize = 0;
-    while at < pairs.len() {
-        let past = at + 1;
-        if past == pairs.len() {
-            return false;
-        }
-        draw_pair(rt, request, kept, pairs[at], pairs[past], tally);
-        at = past + 1;
+    tally: &mut Tally<P>,
+) -> Result<(), Unread> {
+    let (pairs, left) = pairs.as_chunks::<2>();
+    for [word, count] in pairs {
+        let here = hypergeometric::sample_from(&[*word], kept);
+        let rust = Ok(Draw {
+            count: *count,
+            used: 1,
+        });
+        tally.note(
+            Group::Kept,
+            compare(request, here, rust),
+            here,
+            "rust",
+            rust,
+        );
     }
-    true
-}
-
-fn draw_pair(
-    rt: &impl Print,
-    request: Request,
-    kept: Hypergeometric,
-    word: u64,
-    count: u64,
-    tally: &mut [u64; TALLY],
-)
-    requires { FromSetUp kept }
-{
-    let tape = [word];
-    let here = hypergeometric::sample_from(&tape, kept);
-    let rust = Said::Drew(Draw { count, used: 1 });
-    note(
-        rt,
-        tally,
-        KEPT,
-        compare(request, here, rust),
-        here,
-        b" rust ",
-        rust,
-    );
+    if left.is_empty() { Ok(()) } else { Err(Unread) }
 }

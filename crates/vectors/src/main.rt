@@ -8,68 +8,49 @@ mod compare;
 mod kept;
 mod single;
 mod tally;
-mod tell;
 
-use input::Got;
+use cases::Unread;
 use std::io::Read;
-use tally::TALLY;
+use tally::Tally;
 
 // What is read at a time. No case goes over a block's end.
 const BLOCK_WORDS: usize = 8_192;
 
 const BLOCK_BYTES: usize = 65_536;
 
-// What came of a block: its cases are drawn again and there may be more, the input has ended, or nothing can be made of it.
-#[derive(Clone, Copy)]
-enum Block {
-    Drawn,
-    End,
-    Unread,
-}
-
-// Reads a block, and draws its cases again.
-fn take_block<R: Read>(rt: &impl Print, reader: &mut R, tally: &mut [u64; TALLY]) -> Block {
+// Reads a block; at the input's end it is empty.
+fn read_block<'a, R: Read>(
+    reader: &mut R,
+    words: &'a mut [u64; BLOCK_WORDS],
+) -> Result<&'a [u64], Unread> {
     let mut bytes = [0u8; BLOCK_BYTES];
-    let mut words = [0u64; BLOCK_WORDS];
-    match input::fill(reader, &mut bytes) {
-        Got::Failed => Block::Unread,
-        Got::Bytes(n) => {
-            if n == 0 {
-                return Block::End;
-            }
-            if n % 8 != 0 {
-                return Block::Unread;
-            }
-            let count = n / 8;
-            bytes_le::read_words(&bytes, count, &mut words, 0);
-            if cases::draw_block(rt, &words[..count], tally) {
-                Block::Drawn
-            } else {
-                Block::Unread
-            }
-        }
+    let n = input::fill(reader, &mut bytes).map_err(|_| Unread)?;
+    if n % 8 != 0 {
+        return Err(Unread);
     }
+    let count = n / 8;
+    bytes_le::read_words(&bytes, count, words, 0);
+    Ok(&words[..count])
 }
 
-// Draws the cases of every block again. Whether all could be read. A proved loop has to end, so this one counts its turns, from a number
-// that no run uses up.
-fn draw_all<R: Read>(rt: &impl Print, reader: &mut R, tally: &mut [u64; TALLY]) -> bool {
-    let mut turns = u64::MAX;
-    while turns > 0 {
-        match take_block(rt, reader, tally) {
-            Block::Drawn => turns -= 1,
-            Block::End => return true,
-            Block::Unread => return false,
+// Draws the cases of every block again. A proved loop has to end, so this one has a number of turns that no run uses up; what would be left after
+// them is unread.
+fn draw_all<R: Read, P: Print>(reader: &mut R, tally: &mut Tally<P>) -> Result<(), Unread> {
+    let mut words = [0u64; BLOCK_WORDS];
+    for _ in 0..u64::MAX {
+        let block = read_block(reader, &mut words)?;
+        if block.is_empty() {
+            return Ok(());
         }
+        cases::draw_block(block, tally)?;
     }
-    false
+    Err(Unread)
 }
 
 fn main(rt: HostRuntime) {
-    let mut tally = [0u64; TALLY];
-    if draw_all(&rt, &mut rt.stdin(), &mut tally) {
-        tally::report(&rt, &tally);
-    } else {
-        let _ = rt.write_all(b"unread case\n");
-    }
+    let mut tally = Tally::new(&rt);
+    let _ = match draw_all(&mut rt.stdin(), &mut tally) {
+        Ok(()) => tally.report(),
+        Err(Unread) => println!(rt; "unread case"),
+    };
 }

@@ -1,50 +1,21 @@
 // Draws of one request over one tape.
-use crate::cases::Head;
-use crate::compare::{as_said, compare};
-use crate::tally::{TALLY, note};
-use judge::{Verdict, as_marked, is_same};
+use crate::cases::Case;
+use crate::tally::{Group, Tally};
+use judge::{Verdict, is_same};
 use kinds::Request;
 use words::Answer;
 
 // Draws again what the Rust drew, and where the request has a float, once more by it.
-pub(crate) fn draw_single(
-    rt: &impl Print,
-    head: Head,
-    request: Request,
-    tape: &[u64],
-    tally: &mut [u64; TALLY],
-) {
-    let kind = head.kind as usize;
-    let here = draws::draw(tape, request);
-    let by_bits = as_said(here);
-    let by_float = draw_by_float(tape, request, here);
+pub(crate) fn draw_single<P: Print>(case: Case<'_>, request: Request, tally: &mut Tally<P>) {
+    let group = Group::of(request);
+    let here = draws::draw(case.tape, request);
+    let by_bits = here.map_err(u32::from);
+    let by_float = draw_by_float(case.tape, request, here);
     if is_same(by_float, by_bits) {
-        hold(rt, head, request, kind, here, tally);
+        tally.hold(case, request, group, here);
     } else {
-        note(
-            rt,
-            tally,
-            kind,
-            Verdict::Differs,
-            by_float,
-            b" by bits ",
-            by_bits,
-        );
+        tally.note(group, Verdict::Differs, by_float, "by bits", by_bits);
     }
-}
-
-// Holds an answer here against what the Rust did, and the entry that the case is marked with.
-pub(crate) fn hold(
-    rt: &impl Print,
-    head: Head,
-    request: Request,
-    kind: usize,
-    here: Answer,
-    tally: &mut [u64; TALLY],
-) {
-    let rust = head.rust;
-    let verdict = as_marked(head.entry, compare(request, here, rust));
-    note(rt, tally, kind, verdict, here, b" rust ", rust);
 }
 
 // The draw of a threshold or a probability that is handed over as a float, and not by its bits; or what was drawn by bits, where there is

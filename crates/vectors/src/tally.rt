@@ -1,109 +1,202 @@
-// Counts of cases by kind, agreement and entry.
-use crate::compare::as_said;
-use crate::tell::{say, say_number, tell, tell_fraction};
-use judge::{Said, Verdict};
+// Counts of cases by group, agreement and entry, and what is written of those that differ.
+use crate::cases::Case;
+use crate::compare::compare;
+use judge::{Said, Verdict, as_marked};
+use kinds::Request;
+use std::{fmt, io};
 use words::Answer;
 
-// The counters, in rows of 16: all cases first, then the cases of a kind at the kind's number; of these those that agree, at the kind's
-// number; those that an entry lists, at the entry's number; and the others.
-pub(crate) const TALLY: usize = 64;
-
+// Every entry's number is below this.
 const ROW: usize = 16;
-
-const AGREE: usize = 16;
-
-const ENTRY: usize = 32;
-
-const OTHERS: usize = 48;
-
-// A draw from a kept tray, past every kind's number.
-pub(crate) const KEPT: usize = 15;
-
-// A fraction, likewise.
-const FRACTION: usize = 14;
 
 // So many that differ are written out.
 const FEW: u64 = 8;
 
-// Counts a case of a kind by its verdict. Of those that differ the first few are written out: the answer here, and the one that it is held
-// against after its name.
-pub(crate) fn note(
-    rt: &impl Print,
-    tally: &mut [u64; TALLY],
-    kind: usize,
-    verdict: Verdict,
-    here: Answer,
-    name: &[u8],
-    due: Said,
-) {
-    add(tally, 0, 0);
-    add(tally, 0, kind);
-    match verdict {
-        Verdict::Agrees => add(tally, AGREE, kind),
-        Verdict::Listed { entry } => add(tally, ENTRY, entry as usize),
-        Verdict::Differs => {
-            if tally[OTHERS] < FEW {
-                tell(rt, tally[0], kind, as_said(here), name, due);
+// What is counted by itself: the draws of each kind, those from a kept tray, and fractions.
+#[derive(Clone, Copy)]
+pub(crate) enum Group {
+    Hypergeometric,
+    Kept,
+    Poisson,
+    Geometric,
+    Standard,
+    Fraction,
+}
+
+impl Group {
+    // The group of a request's kind.
+    pub(crate) fn of(request: Request) -> Group {
+        match request {
+            Request::Hypergeometric { .. } => Group::Hypergeometric,
+            Request::Poisson { .. } => Group::Poisson,
+            Request::Geometric { .. } => Group::Geometric,
+            Request::StandardGeometric => Group::Standard,
+        }
+    }
+}
+
+// How the line of a case that differs names its group: by the kind's number, and by one past every kind's where it is no kind's.
+impl fmt::Display for Group {
+    fn fmt<W: fmt::Write>(&self, f: &mut fmt::Formatter<W>) -> fmt::Result {
+        f.write_str(match self {
+            Group::Hypergeometric => "1",
+            Group::Poisson => "2",
+            Group::Geometric => "3",
+            Group::Standard => "4",
+            Group::Fraction => "14",
+            Group::Kept => "15",
+        })
+    }
+}
+
+// The cases of a group, and those of them that agree.
+#[derive(Clone, Copy)]
+struct Counts {
+    cases: u64,
+    agree: u64,
+}
+
+const NONE: Counts = Counts { cases: 0, agree: 0 };
+
+impl fmt::Display for Counts {
+    fn fmt<W: fmt::Write>(&self, f: &mut fmt::Formatter<W>) -> fmt::Result {
+        write!(f, "{} agree {}", self.cases, self.agree)
+    }
+}
+
+// All cases, those of each group, those that each entry lists, by its number, and the others.
+#[derive(Drop)]
+pub(crate) struct Tally<'a, P> {
+    rt: &'a P,
+    cases: u64,
+    hypergeometric: Counts,
+    kept: Counts,
+    poisson: Counts,
+    geometric: Counts,
+    standard: Counts,
+    fractions: Counts,
+    entries: [u64; ROW],
+    others: u64,
+}
+
+impl<'a, P: Print> Tally<'a, P> {
+    pub(crate) fn new(rt: &'a P) -> Tally<'a, P> {
+        Tally {
+            rt,
+            cases: 0,
+            hypergeometric: NONE,
+            kept: NONE,
+            poisson: NONE,
+            geometric: NONE,
+            standard: NONE,
+            fractions: NONE,
+            entries: [0; ROW],
+            others: 0,
+        }
+    }
+
+    // Holds an answer here against what the Rust did, and the entry that the case is marked with.
+    pub(crate) fn hold(&mut self, case: Case<'_>, request: Request, group: Group, here: Answer) {
+        let verdict = as_marked(case.entry, compare(request, here, case.rust));
+        self.note(group, verdict, here, "rust", case.rust);
+    }
+
+    // Counts a case by its verdict. Of those that differ the first few are written out: the answer here, and the one that it is held against
+    // after its name.
+    pub(crate) fn note(
+        &mut self,
+        group: Group,
+        verdict: Verdict,
+        here: Answer,
+        name: &str,
+        due: Said,
+    ) {
+        if let Some(case) = self.count(group, verdict) {
+            let here = Told(here.map_err(u32::from));
+            let due = Told(due);
+            let _ = println!(self.rt; "differs: case {case} kind {group} here {here} {name} {due}");
+        }
+    }
+
+    // Counts a fraction by its bits.
+    pub(crate) fn note_fraction(&mut self, here: u64, recorded: u64) {
+        let verdict = if here == recorded {
+            Verdict::Agrees
+        } else {
+            Verdict::Differs
+        };
+        if let Some(case) = self.count(Group::Fraction, verdict) {
+            let _ = println!(self.rt;
+                "differs: case {case} fraction here 0x{here:016x} recorded 0x{recorded:016x}"
+            );
+        }
+    }
+
+    fn counts_of(&mut self, group: Group) -> &mut Counts {
+        match group {
+            Group::Hypergeometric => &mut self.hypergeometric,
+            Group::Kept => &mut self.kept,
+            Group::Poisson => &mut self.poisson,
+            Group::Geometric => &mut self.geometric,
+            Group::Standard => &mut self.standard,
+            Group::Fraction => &mut self.fractions,
+        }
+    }
+
+    // Counts a case of a group by its verdict. Its number, where it is one of the few that are written out.
+    fn count(&mut self, group: Group, verdict: Verdict) -> Option<u64> {
+        add(&mut self.cases);
+        let counts = self.counts_of(group);
+        add(&mut counts.cases);
+        if verdict == Verdict::Agrees {
+            add(&mut counts.agree);
+        }
+        match verdict {
+            Verdict::Agrees => None,
+            Verdict::Listed { entry } => {
+                if let Some(listed) = self.entries.get_mut(entry as usize) {
+                    add(listed);
+                }
+                None
             }
-            add(tally, OTHERS, 0);
+            Verdict::Differs => {
+                let is_told = self.others < FEW;
+                add(&mut self.others);
+                is_told.then_some(self.cases)
+            }
         }
     }
-}
 
-// Counts a fraction by its bits.
-pub(crate) fn note_fraction(rt: &impl Print, tally: &mut [u64; TALLY], here: u64, recorded: u64) {
-    add(tally, 0, 0);
-    add(tally, 0, FRACTION);
-    if here == recorded {
-        add(tally, AGREE, FRACTION);
-    } else {
-        if tally[OTHERS] < FEW {
-            tell_fraction(rt, tally[0], here, recorded);
+    // Writes all the counts, a line for each group and each entry.
+    pub(crate) fn report(&self) -> io::Result<()> {
+        println!(self.rt; "hypergeometric {}", self.hypergeometric)?;
+        println!(self.rt; "kept {}", self.kept)?;
+        println!(self.rt; "poisson {}", self.poisson)?;
+        println!(self.rt; "geometric {}", self.geometric)?;
+        println!(self.rt; "standard {}", self.standard)?;
+        println!(self.rt; "fraction {}", self.fractions)?;
+        for entry in [1, 4, 5, 9, 10] {
+            let listed = self.entries[entry];
+            println!(self.rt; "entry {entry} {listed}")?;
         }
-        add(tally, OTHERS, 0);
+        println!(self.rt; "cases {}", self.cases)?;
+        println!(self.rt; "others {}", self.others)
     }
 }
 
-// Counts at a place of the row that begins there.
-fn add(tally: &mut [u64; TALLY], row: usize, place: usize) {
-    if row <= OTHERS {
-        if place < ROW {
-            let at = row + place;
-            tally[at] = std::num::wrapping_add_u64(tally[at], 1);
+fn add(counter: &mut u64) {
+    *counter = counter.wrapping_add(1);
+}
+
+// How an answer is written.
+#[derive(Drop)]
+struct Told(Said);
+
+impl fmt::Display for Told {
+    fn fmt<W: fmt::Write>(&self, f: &mut fmt::Formatter<W>) -> fmt::Result {
+        match self.0 {
+            Ok(draw) => write!(f, "{} used {}", draw.count, draw.used),
+            Err(number) => write!(f, "refused {number}"),
         }
-    }
-}
-
-// Writes all the counts, a line for each kind and each entry.
-pub(crate) fn report(rt: &impl Print, tally: &[u64; TALLY]) {
-    say_kind(rt, b"hypergeometric", tally, 1);
-    say_kind(rt, b"kept", tally, KEPT);
-    say_kind(rt, b"poisson", tally, 2);
-    say_kind(rt, b"geometric", tally, 3);
-    say_kind(rt, b"standard", tally, 4);
-    say_kind(rt, b"fraction", tally, FRACTION);
-    say_count(rt, b"entry 1", tally, ENTRY + 1);
-    say_count(rt, b"entry 4", tally, ENTRY + 4);
-    say_count(rt, b"entry 5", tally, ENTRY + 5);
-    say_count(rt, b"entry 9", tally, ENTRY + 9);
-    say_count(rt, b"entry 10", tally, ENTRY + 10);
-    say_count(rt, b"cases", tally, 0);
-    say_count(rt, b"others", tally, OTHERS);
-}
-
-fn say_kind(rt: &impl Print, name: &[u8], tally: &[u64; TALLY], kind: usize) {
-    if kind < ROW {
-        say(rt, name);
-        say_number(rt, b" ", tally[kind]);
-        say_number(rt, b" agree ", tally[AGREE + kind]);
-        say(rt, b"\n");
-    }
-}
-
-fn say_count(rt: &impl Print, name: &[u8], tally: &[u64; TALLY], place: usize) {
-    if place < TALLY {
-        say(rt, name);
-        say_number(rt, b" ", tally[place]);
-        say(rt, b"\n");
     }
 }

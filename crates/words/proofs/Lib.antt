@@ -1,6 +1,7 @@
 pub mod Fractions
 pub mod Patterns
 pub mod Tape
+pub mod Ended
 pub mod Reading
 pub mod Locality
 pub mod Keeping

@@ -7,13 +7,12 @@ use native.Mathlib.Omega.{arith}
 use lib.Dec.{T, ltb, ltb→lt}
 use lib.Ieee.Fits.{and_l, and_r}
 use lib.ListN.{get_or}
-use Rattle.words.specs.declared.Answer.{Answer}
-use Rattle.words.specs.declared.Answer.TheVariants.{Drawn, Refused}
+use Rattle.std.proofs.Common.{Ok, Err}
 use Rattle.words.specs.declared.Draw.{Draw}
 use Rattle.words.specs.declared.Refusal.{Refusal}
 use Rattle.words.specs.declared.Refusal.TheVariants.{TapeTooLong, PopulationTooLarge, ProbabilityTooLarge, SampleSizeTooLarge, CapExceeded, ModeTooHigh, ThresholdOutside, InvalidProbability, TooRare, Exhausted, BookTooLong, BookDamaged, SerialAhead, SerialReused, BookFull, StrikeTooMany, RedrawDiffers, MeanOutside}
 use Rattle.words.specs.Outcome.{Outcome, drawn, refused}
-use Rattle.words.specs.Paper.{number_of, paper}
+use Rattle.words.specs.Paper.{Answer, number_of, paper}
 use Rattle.words.specs.Inner.{drew}
 
 -- the refusals in the order of their numbers, any of them at 0
@@ -75,12 +74,12 @@ pub one_draw : (c d : Draw) → c.count ≡ d.count → c.used ≡ d.used → c 
 one_draw c d e f = λ i. drew (e i) (f i)
 
 abbrev back : Outcome ℕ → Answer
-back (drawn c u) = Drawn (drew c u)
-back (refused n) = Refused (name_of n)
+back (drawn c u) = Ok (drew c u)
+back (refused n) = Err (name_of n)
 
 back_of_paper : (a : Answer) → back (paper a) ≡ a
-back_of_paper (Drawn d) = refl
-back_of_paper (Refused x) = ap Refused (name_of_number x)
+back_of_paper (Ok d) = refl
+back_of_paper (Err x) = ap Err (name_of_number x)
 
 pub one_answer : (a b : Answer) → paper a ≡ paper b → a ≡ b
 one_answer a b e = sym (back_of_paper a) ∙ ap back e ∙ back_of_paper b

@@ -7,7 +7,7 @@ use native.Mathlib.Numerals.{add-one}
 use native.Mathlib.Omega.{arith}
 use lib.ListN.{length, drop, drop_of_length-le}
 use lib.Seq.{drop-cons}
-use Rattle.words.specs.declared.Word.TheVariants.{Is, End}
+use Rattle.std.proofs.Common.{Some, None}
 use Rattle.words.specs.Inner.{word_at, is_short}
 use Rattle.words.specs.Outcome.{drawn, refused}
 use Rattle.words.specs.Rule.{Step, done, more, Rule, read, reading}
@@ -24,7 +24,7 @@ module _ {S A : Type 0} (r : Rule S A) where
   read_done (w ∷ ws) a u = refl
 
   -- a turn: the word at the place is read
-  pub read_at : (ws : List ℕ) (i w : ℕ) (s : S) (u : ℕ) → word_at ws i ≡ Is w
+  pub read_at : (ws : List ℕ) (i w : ℕ) (s : S) (u : ℕ) → word_at ws i ≡ Some w
       → read r (drop i ws) (more s) u ≡ read r (drop (i + 1) ws) (r.step s w) (u + 1)
   unfolding read
   read_at ws i w s u e =
@@ -32,7 +32,7 @@ module _ {S A : Type 0} (r : Rule S A) where
       rw (add-one i, add-one u, drop-cons ws i 0 h.0) (ap (λ (x : ℕ). read r (drop (suc i) ws) (r.step s x) (suc u)) h.1)
 
   -- the end: the word that is called for is missing
-  pub read_end : (ws : List ℕ) (i : ℕ) (s : S) (u : ℕ) → word_at ws i ≡ End → read r (drop i ws) (more s) u ≡ refused (r.short s)
+  pub read_end : (ws : List ℕ) (i : ℕ) (s : S) (u : ℕ) → word_at ws i ≡ None → read r (drop i ws) (more s) u ≡ refused (r.short s)
   unfolding read
   read_end ws i s u e = rw (drop_of_length-le ws (word_missing ws i e))
 

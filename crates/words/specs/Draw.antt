@@ -1,10 +1,9 @@
 -- RULES, 'Refusals': the order for a draw, 1, then the parameters' refusals, then those of a tape that is too short. Assumes nothing.
 use Rattle.std.specs.Prelude.{ℕ, Bool, false, List, [], ◌∷◌, ◌++◌, ◌≡◌, eqb}
-use Rattle.words.specs.declared.Answer.{Answer}
 use Rattle.words.specs.Words.{too_long}
 use Rattle.words.specs.Outcome.{Outcome, drawn, refused}
 use Rattle.words.specs.Refusals.{Condition, ◌on◌, given}
-use Rattle.words.specs.Paper.{paper}
+use Rattle.words.specs.Paper.{Answer, paper}
 
 -- the refusals by which a reading may run out of words, in their order: Exhausted
 abbrev pub shorts : List ℕ

@@ -1,13 +1,11 @@
 -- What inner functions and laws speak of: no entry point's contract and no demand rests on it. Assumes nothing.
-use Rattle.std.specs.Prelude.{ℕ, Bool, false, cond, ◌||◌, List, [], ◌∷◌, eqb, ltb, length, get_or}
+use Rattle.std.specs.Prelude.{ℕ, Bool, false, ◌||◌, List, [], ◌∷◌, Option, eqb, slice_get}
 use Rattle.words.specs.declared.Draw.{Draw}
-use Rattle.words.specs.declared.Word.{Word}
-use Rattle.words.specs.declared.Word.TheVariants.{Is, End}
 use Rattle.words.specs.Draw.{shorts}
 
 -- what stands at place i of the tape
-unfoldable pub word_at : List ℕ → ℕ → Word
-word_at ws i = cond (ltb i (length ws)) (Is (get_or ws i 0)) End
+abbrev pub word_at : List ℕ → ℕ → Option ℕ
+word_at ws i = slice_get ws i
 
 -- the struct of a draw, by its count and the words used
 abbrev pub drew : ℕ → ℕ → Draw

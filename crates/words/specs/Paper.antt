@@ -1,7 +1,5 @@
 -- RULES, 'Refusals': the enums in the terms of that page, each refusal's number and a draw's answer. Assumes nothing.
-use Rattle.std.specs.Prelude.{ℕ}
-use Rattle.words.specs.declared.Answer.{Answer}
-use Rattle.words.specs.declared.Answer.TheVariants.{Drawn, Refused}
+use Rattle.std.specs.Prelude.{ℕ, Result, Ok, Err}
 use Rattle.words.specs.declared.Draw.{Draw}
 use Rattle.words.specs.declared.Refusal.{Refusal}
 use Rattle.words.specs.declared.Refusal.TheVariants.{TapeTooLong, PopulationTooLarge, ProbabilityTooLarge, SampleSizeTooLarge, CapExceeded, ModeTooHigh, ThresholdOutside, InvalidProbability, TooRare, Exhausted, BookTooLong, BookDamaged, SerialAhead, SerialReused, BookFull, StrikeTooMany, RedrawDiffers, MeanOutside}
@@ -31,7 +29,11 @@ number_of MeanOutside = 18
 abbrev pub told : Draw → Outcome ℕ
 told d = drawn d.count d.used
 
--- a draw's answer; nothing is lost (`one_answer`)
+-- what a draw answers: what was drawn, or why nothing was
+abbrev pub Answer : Type 0
+Answer = Result Draw Refusal
+
+-- that answer; nothing is lost (`one_answer`)
 abbrev pub paper : Answer → Outcome ℕ
-paper (Drawn d) = told d
-paper (Refused x) = refused (number_of x)
+paper (Ok d) = told d
+paper (Err x) = refused (number_of x)

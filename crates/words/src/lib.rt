@@ -7,7 +7,7 @@ ghost use Rattle.words.specs.Inner.{word_at, is_short};
 ghost use Rattle.words.specs.Paper.{number_of};
 
 // Why a call was refused: every name of the table of refusals, in the order of its numbers.
-#[derive(Clone, Copy)]
+#[derive(Clone, Copy, PartialEq, Eq)]
 pub enum Refusal {
     TapeTooLong,
     PopulationTooLarge,
@@ -30,60 +30,49 @@ pub enum Refusal {
 }
 
 // What was drawn: the count, and the number of words that the draw used.
-#[derive(Clone, Copy)]
+#[derive(Clone, Copy, PartialEq, Eq)]
 pub struct Draw {
     pub count: u64,
     pub used: usize,
 }
 
 // What a draw answers: what was drawn, or why nothing was.
-#[derive(Clone, Copy)]
-pub enum Answer {
-    Drawn(Draw),
-    Refused(Refusal),
-}
-
-// What stands at a place of the tape.
-#[derive(Clone, Copy)]
-pub enum Word {
-    Is(u64),
-    End,
-}
+pub type Answer = Result<Draw, Refusal>;
 
 // The number of a refusal, as the table of refusals has it.
-pub fn number(refusal: Refusal) -> u32
-    ensures { result ≡ number_of refusal }
-{
-    match refusal {
-        Refusal::TapeTooLong => 1,
-        Refusal::PopulationTooLarge => 2,
-        Refusal::ProbabilityTooLarge => 3,
-        Refusal::SampleSizeTooLarge => 4,
-        Refusal::CapExceeded => 5,
-        Refusal::ModeTooHigh => 6,
-        Refusal::ThresholdOutside => 7,
-        Refusal::InvalidProbability => 8,
-        Refusal::TooRare => 9,
-        Refusal::Exhausted => 10,
-        Refusal::BookTooLong => 11,
-        Refusal::BookDamaged => 12,
-        Refusal::SerialAhead => 13,
-        Refusal::SerialReused => 14,
-        Refusal::BookFull => 15,
-        Refusal::StrikeTooMany => 16,
-        Refusal::RedrawDiffers => 17,
-        Refusal::MeanOutside => 18,
+impl From<Refusal> for u32 {
+    ghost from_gives = { λ refusal number. number ≡ number_of refusal };
+
+    fn from(refusal: Refusal) -> u32 {
+        match refusal {
+            Refusal::TapeTooLong => 1,
+            Refusal::PopulationTooLarge => 2,
+            Refusal::ProbabilityTooLarge => 3,
+            Refusal::SampleSizeTooLarge => 4,
+            Refusal::CapExceeded => 5,
+            Refusal::ModeTooHigh => 6,
+            Refusal::ThresholdOutside => 7,
+            Refusal::InvalidProbability => 8,
+            Refusal::TooRare => 9,
+            Refusal::Exhausted => 10,
+            Refusal::BookTooLong => 11,
+            Refusal::BookDamaged => 12,
+            Refusal::SerialAhead => 13,
+            Refusal::SerialReused => 14,
+            Refusal::BookFull => 15,
+            Refusal::StrikeTooMany => 16,
+            Refusal::RedrawDiffers => 17,
+            Refusal::MeanOutside => 18,
+        }
     }
 }
 
 // Whether a refusal, by its number, is one by which a reading may run out of words.
+// It takes any number and no `Refusal`: docs/PUBLIC.md promises its answer for each u32, those that are no refusal's included.
 pub fn is_short(number: u32) -> bool
     ensures { result ≡ is_short number }
 {
-    match number {
-        10 => true,
-        _ => false,
-    }
+    matches!(number, 10)
 }
 
 // The most words that a tape may have.
@@ -98,14 +87,10 @@ pub fn too_long(tape: &[u64]) -> bool
 
 // The word at place i, or that the tape has ended. Every draw reads its words through this function and no other,
 // so that another kind of tape changes this function alone.
-pub fn word_at(tape: &[u64], i: usize) -> Word
+pub fn word_at(tape: &[u64], i: usize) -> Option<u64>
     ensures { result ≡ word_at tape.now i }
 {
-    if i < tape.len() {
-        Word::Is(tape[i])
-    } else {
-        Word::End
-    }
+    tape.get(i).copied()
 }
 
 // The fraction of a word: its upper 53 bits over 2^53. Both the cast and the division are exact.

@@ -5,28 +5,27 @@ ghost use Rattle.std.specs.Prelude.{[], ◌∷◌, ◌+◌, ◌≤◌, ◌<◌, 
 ghost use Rattle.writing.specs.Digits.{decimal};
 ghost use Rattle.writing.specs.Writing.{Writes};
 
-// Writes a text from `at` on, and answers the place after it.
+// Writes a text from `at` on, and answers the place after it. Here and in lines, names, answer_lines and book_lines bytes and place are two
+// parameters, and no struct of both: `Writes`, which the documents name, states what stands where by the bytes and the place.
 pub fn put_text(out: &mut [u8], at: usize, text: &[u8]) -> usize
     requires { at + length text.now ≤ length out.old }
     ensures { Writes out.old at text.now out.new result }
 {
-    let mut i: usize = 0;
-    while i < text.len() {
-        out[at + i] = text[i];
-        i += 1;
-    }
-    at + i
+    let end = at + text.len();
+    out[at..end].copy_from_slice(text);
+    end
 }
 
 fn put_digit(out: &mut [u8], at: usize, digit: u64) -> usize
     requires { (at < length out.old) × (digit < 10) }
     ensures { Writes out.old at ((48 + digit) ∷ []) out.new result }
 {
-    out[at] = 48 + digit as u8;
+    out[at] = b'0' + digit as u8;
     at + 1
 }
 
-// Writes a number's decimal digits from `at` on, and answers the place after them.
+// Writes a number's decimal digits from `at` on, and answers the place after them. By hand: `write!` into lent bytes goes by
+// `std::io`, and the crates below the program stay without it.
 pub fn put_decimal(out: &mut [u8], at: usize, n: u64) -> usize
     requires { at + length (decimal n) ≤ length out.old }
     ensures { Writes out.old at (decimal n) out.new result }

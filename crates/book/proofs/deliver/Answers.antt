@@ -1,14 +1,11 @@
--- `deliver` meets its contract: stopped by the first refusals, or delivered into a sound book. Assumes nothing.
-use Rattle.std.proofs.Common.{sym, ap, ◌∙◌}
-use Rattle.opening.specs.Inner.{opened_as}
-use Rattle.opening.proofs.Opening.{refused_opening, sound_opening}
-use Rattle.book.proofs.Delivering.{deliver_stopped}
+-- `deliver`: the entry of a serial below next answers a copy. Assumes nothing.
+use Rattle.std.proofs.Common.{rules, arith}
+use Rattle.opening.proofs.Opening.{sound_opening}
+use Rattle.book.proofs.Delivering.{copy_answers}
 use Rattle.book.proofs.deliver.Goals as goal
 
-pub deliver_to-requires : goal.deliver_to-requires
-deliver_to-requires c = sound_opening _ _ _ _ (sym (ap opened_as c.in-Sound.is) ∙ c.open_book.ensures)
-
-pub returns-in-Refused : goal.returns-in-Refused
-returns-in-Refused c =
-    deliver_stopped c.args.tape.now c.args.book.now c.args.serial c.args.request _
-    (refused_opening _ _ _ (sym (ap opened_as c.in-Refused.is) ∙ c.open_book.ensures))
+pub returns-then-serial-next : goal.returns-then-serial-next
+returns-then-serial-next c =
+    rw (← c.from-serial.ensures)
+    (copy_answers _ _ _ _ _ (sound_opening _ _ _ _ c.in_ok-standing.ensures) (λ i. search rules) (λ z. omega arith) (omega arith)
+    _ c.offset_of-at.ensures _ c.entry_at.ensures _ c.copy_of.ensures)

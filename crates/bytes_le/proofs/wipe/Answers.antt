@@ -1,11 +1,12 @@
--- `bytes_le::wipe` meets its contract: what is left to wipe from here leaves the whole. Assumes nothing.
-use Rattle.std.proofs.Common.{rules, length-set, ◌∙◌}
-use Rattle.bytes_le.proofs.Zeros.{wipe_turn, wipe_done}
+-- `bytes_le::wipe` meets its contract: the part that is filled is the one that is wiped. Assumes nothing.
+use Rattle.std.proofs.Common.{rules, arith, ap, ◌≡◌, ◌∙◌, ℕ, ◌-◌, length, take, drop, replicate}
+use Rattle.std.proofs.lemmas.List.Edits.{length-between}
+use Rattle.bytes_le.proofs.Zeros.{part_wiped}
 use Rattle.bytes_le.proofs.wipe.Goals as goal
 
-pub loop-i-preserved : goal.loop-i-preserved
-loop-i-preserved c =
-    (search rules, simp length-set c.loop-i.invariant.1, wipe_turn c.loop-i.bytes c.loop-i.i c.args.to (search rules) (search rules) ∙ c.loop-i.invariant.2)
-
 pub returns : goal.returns
-returns c = wipe_done c.loop-i.bytes _ c.loop-i.i c.args.to (search rules) (search rules) c.loop-i.invariant.2
+returns c =
+    let many : length (take (c.args.to - c.args.from) (drop c.args.from c.args.bytes.now)) ≡ c.args.to - c.args.from =
+    length-between c.args.bytes.now c.args.from c.args.to (omega arith) in
+    let zeros : c.fill.new.self ≡ replicate (c.args.to - c.args.from) 0 = c.fill.ensures.after (λ y k. search rules) ∙ ap (λ (n : ℕ). replicate n 0) many in
+    rw zeros (part_wiped c.args.bytes.now c.args.from c.args.to (search rules))

@@ -1,5 +1,5 @@
 -- `first_probability::fraction_of_products_of_factorials` meets its contract. Assumes nothing.
-use Rattle.std.proofs.Common.{sym, ◌∙◌, arith}
+use Rattle.std.proofs.Common.{sym, ◌∙◌}
 use lib.Ieee.{of_bits, round}
 use Rattle.first_probability.specs.First.{fraction_of_factorials}
 use Rattle.first_probability.proofs.Factors.{factors_more, factors_end}
@@ -7,22 +7,11 @@ use Rattle.first_probability.proofs.fraction_of_products_of_factorials.Goals as 
 
 pub loop-i-init : goal.loop-i-init
 unfolding fraction_of_factorials of_bits round
-loop-i-init c = (
-  omega arith,
-  omega arith,
-  simp (
-    c.smaller-i.ensures,
-    c.larger-max_all.ensures,
-    c.larger-max_bottom.ensures,
-    c.larger-max_top.ensures,
-    c.smaller-min_bottom.ensures,
-    c.smaller-min_top.ensures,
-  ),
-)
+loop-i-init c = cc
 
 pub loop-i-preserved : goal.loop-i-preserved
 loop-i-preserved c =
-    (omega arith, omega arith, c.loop-i.invariant.2 ∙ factors_more _ _ _ _ _ c.loop-i.i c.loop-i.result c.loop-i-test.true ∙ simp (← c.at_factor-result.ensures))
+    c.loop-i.invariant ∙ factors_more _ _ _ _ _ c.loop-i.i c.loop-i.result c.loop-i-test.true ∙ simp (← c.at_factor-result.ensures)
 
 pub returns : goal.returns
-returns c = sym (c.loop-i.invariant.2 ∙ factors_end _ _ _ _ _ c.loop-i.i c.loop-i.result c.loop-i-test.false)
+returns c = sym (c.loop-i.invariant ∙ factors_end _ _ _ _ _ c.loop-i.i c.loop-i.result c.loop-i-test.false)

@@ -1,34 +1,15 @@
--- `geometric::sample` meets its contract: the tests stand in the order of the list of refusals. Assumes nothing.
-use Rattle.std.proofs.Common.{◌≡◌, sym, ap, ◌∙◌, false, [], ◌∷◌}
-use lib.Ieee.{of_bits, round}
-use Rattle.words.specs.Words.{too_long}
-use Rattle.words.specs.Refusals.{◌on◌, given}
-use Rattle.words.proofs.Tape.{within_limit}
-use Rattle.words.specs.Draw.{shorts, draw}
-use Rattle.words.proofs.Short.{ends_same}
-use Rattle.geometric.specs.Geometric.{is_probability, is_too_rare, geometric_reading, geometric}
+-- `geometric::sample` meets its contract: a float's bits stand for that float. Assumes nothing.
+use Rattle.std.proofs.Common.{◌≡◌, ap, ◌∙◌, subst}
+use Rattle.std.specs.Bool.{passes}
+use lib.Ieee.{Float, binary64, of_bits}
+use lib.Ieee.Bits.{of_bits-to_bits}
+use Rattle.words.specs.Draw.{DrawAllows}
+use Rattle.geometric.specs.Geometric.{geometric}
 use Rattle.geometric.proofs.sample.Goals as goal
 
-pub returns-then-too_long : goal.returns-then-too_long
-unfolding draw geometric
-returns-then-too_long c = simp (sym c.too_long.ensures ∙ c.if-too_long.true)
-
-pub sample_valid-requires : goal.sample_valid-requires
-sample_valid-requires c = within_limit _ (sym c.too_long.ensures ∙ c.if-too_long.false)
-
-pub returns-then-p-2 : goal.returns-then-p-2
-unfolding draw geometric is_probability of_bits round
-returns-then-p-2 c =
+pub returns : goal.returns
+returns c =
     let a = c.args in
-    let within : too_long a.tape.now ≡ false = sym c.too_long.ensures ∙ c.if-too_long.false in
-    c.sample_valid.ensures
-    ∙ simp (within, c.if-p.true, c.if-p-2.true)
-    (ap (λ o. given (9 on is_too_rare a.p ∷ []) o) (sym (ends_same shorts (geometric_reading a.p a.tape.now))))
-
-pub returns-else-p-2 : goal.returns-else-p-2
-unfolding draw geometric is_probability of_bits round
-returns-else-p-2 c = simp (sym c.too_long.ensures ∙ c.if-too_long.false, c.if-p.true, c.if-p-2.false)
-
-pub returns-else-p : goal.returns-else-p
-unfolding draw geometric is_probability of_bits round
-returns-else-p c = simp (sym c.too_long.ensures ∙ c.if-too_long.false, c.if-p.false)
+    let same : of_bits binary64 c.f64_to_bits_with_nan.result ≡ a.p =
+    ap (of_bits binary64) c.f64_to_bits_with_nan.ensures ∙ of_bits-to_bits binary64 a.p (passes _ c.well_formed.1.0.1) in
+    subst (λ (x : Float). DrawAllows (geometric x) a.tape.now c.sample_bits.result) same c.sample_bits.ensures

@@ -3,7 +3,7 @@ use Rattle.std.proofs.Common.{◌≡◌, sym, ap, ◌∙◌, false, [], ◌∷�
 use lib.Ieee.{binary64, of_bits}
 use Rattle.words.specs.Words.{too_long}
 use Rattle.words.specs.Refusals.{◌on◌, given}
-use Rattle.words.proofs.Patterns.{float_of_bits}
+use Rattle.std.proofs.lemmas.Float.{not_nan_f64_bits}
 use Rattle.words.proofs.Tape.{within_limit}
 use Rattle.words.specs.Outcome.{drawn}
 use Rattle.words.specs.Draw.{shorts, draw}
@@ -14,20 +14,20 @@ use Rattle.geometric.proofs.sample_bits.Goals as goal
 
 pub returns-then-too_long : goal.returns-then-too_long
 unfolding draw geometric
-returns-then-too_long c = simp (sym c.too_long.ensures ∙ c.if-too_long.true)
+returns-then-too_long c = simp (sym c.if-too_long.ensures)
 
 pub float_from_bits-p : goal.float_from_bits-p
-float_from_bits-p c = float_of_bits c.args.p (omega arith)
+float_from_bits-p c = not_nan_f64_bits c.args.p (omega arith)
 
 pub sample_valid-requires : goal.sample_valid-requires
-sample_valid-requires c = within_limit _ (sym c.too_long.ensures ∙ c.if-too_long.false)
+sample_valid-requires c = within_limit _ (sym c.if-too_long.ensures)
 
 pub returns-then-p-le-ONE : goal.returns-then-p-le-ONE
 unfolding draw geometric
 returns-then-p-le-ONE c =
     let a = c.args in
     let p = of_bits binary64 a.p in
-    let within : too_long a.tape.now ≡ false = sym c.too_long.ensures ∙ c.if-too_long.false in
+    let within : too_long a.tape.now ≡ false = sym c.if-too_long.ensures in
     c.sample_valid.ensures
     ∙ simp (within, bits_probability a.p (omega arith))
     (ap (λ o. given (9 on is_too_rare p ∷ []) o) (sym (ends_same shorts (geometric_reading p a.tape.now))))
@@ -37,12 +37,11 @@ unfolding draw geometric
 returns-then-p-eq-MINUS_ZERO c =
     let a = c.args in
     let z = c.if-p-eq-MINUS_ZERO.true in
-    let within : too_long a.tape.now ≡ false = sym c.too_long.ensures ∙ c.if-too_long.false in
-    c.never.ensures
-    ∙ simp (within, sign_probability a.p z, sign_not_rare a.p z, sign_never a.p a.tape.now z) (sym (ends_same shorts (drawn (2 ^ 64 - 1) 0)))
+    let within : too_long a.tape.now ≡ false = sym c.if-too_long.ensures in
+    simp (within, sign_probability a.p z, sign_not_rare a.p z, sign_never a.p a.tape.now z) (sym (ends_same shorts (drawn (2 ^ 64 - 1) 0)))
 
 pub returns : goal.returns
 unfolding draw geometric
 returns c =
-    let within : too_long c.args.tape.now ≡ false = sym c.too_long.ensures ∙ c.if-too_long.false in
+    let within : too_long c.args.tape.now ≡ false = sym c.if-too_long.ensures in
     simp (within, bits_not_probability c.args.p (omega arith) (omega arith) (λ e. omega arith))

@@ -5,10 +5,14 @@ use lib.Ieee.Fits.{sub-fits}
 use Rattle.words.specs.Words.{ratio}
 use Rattle.search.specs.Squares.{half, squares}
 use Rattle.geometric.specs.Geometric.{is_large, q_of, is_never, geometric_reading, is_too_rare}
-use Rattle.search.proofs.Squarings.{squares_least}
 use Rattle.search.proofs.Edge.{not_too_rare, too_rare, quarter_left}
 use Rattle.geometric.proofs.GeometricLaws.{search_given}
 use Rattle.geometric.proofs.sample_valid.Goals as goal
+
+-- p is large
+pub sample_trivial-requires : goal.sample_trivial-requires
+unfolding is_large of_bits round
+sample_trivial-requires c = c.if-p.true
 
 pub returns-then-p : goal.returns-then-p
 unfolding geometric_reading is_too_rare is_large of_bits round
@@ -16,7 +20,7 @@ returns-then-p c = c.sample_trivial.ensures ∙ simp c.if-p.true
 
 pub returns-then-q : goal.returns-then-q
 unfolding geometric_reading is_too_rare is_large is_never q_of of_bits round
-returns-then-q c = c.never.ensures ∙ simp (c.if-p.false, c.if-q.true)
+returns-then-q c = simp (c.if-p.false, c.if-q.true)
 
 -- q is above the edge where the third test says so, and then 31 squarings leave it above 0.5
 pub returns-then-q-2 : goal.returns-then-q-2
@@ -27,17 +31,13 @@ returns-then-q-2 c =
     simp (c.if-p.false, c.if-q.false, rare)
 
 -- else it is in the range of `square`
-pub square-s-requires : goal.square-s-requires
+pub square-requires : goal.square-requires
 unfolding is_large q_of of_bits round
-square-s-requires c = (c.if-q-2.false, quarter_left c.args.p c.if-p.false)
-
-pub sample_search-requires : goal.sample_search-requires
-unfolding q_of of_bits round
-sample_search-requires c = (rw c.square-s.ensures.0 (squares_least (q_of c.args.p)).most, c.requires)
+square-requires c = (c.if-q-2.false, quarter_left c.args.p c.if-p.false)
 
 pub returns : goal.returns
 unfolding is_large is_never q_of of_bits round
 returns c =
     let p = c.args.p in
     let low = not_too_rare (q_of p) c.if-q-2.false (quarter_left p c.if-p.false) in
-    search_given p _ c.if-p.false c.if-q.false low _ _ c.square-s.ensures.0 c.square-s.ensures.1 _ c.sample_search.ensures
+    search_given p _ c.if-p.false c.if-q.false low _ _ _ c.square.ensures _ c.sample_search.ensures

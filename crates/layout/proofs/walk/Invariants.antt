@@ -5,9 +5,10 @@ use Rattle.layout.specs.Inner.{walked}
 use Rattle.layout.proofs.Walking.{rest}
 use Rattle.layout.proofs.walk.Given as goal
 
-abbrev pub invariant-loop-standing : goal.invariant-loop-standing
-invariant-loop-standing l =
-    (l.at ≤ length l.book) × (fixed_length * l.entries ≤ l.at) × (l.place < 2 ^ 33) × (rest l.words l.book l.at l.entries l.place ≡ walked l.words l.book)
+abbrev pub invariant-loop-at : goal.invariant-loop-at
+invariant-loop-at l =
+    (l.standing.end ≤ length l.book) × (fixed_length * l.standing.entries ≤ l.standing.end) × (l.standing.place < 2 ^ 33)
+    × (rest l.words l.book l.standing.end l.standing.entries l.standing.place ≡ walked l.words l.book)
 
-abbrev pub decreases-loop-standing : goal.decreases-loop-standing
-decreases-loop-standing l = length l.book - l.at
+abbrev pub decreases-loop-at : goal.decreases-loop-at
+decreases-loop-at l = length l.book - l.standing.end

@@ -1,27 +1,15 @@
--- `poisson::sample` meets its contract: the tests stand in the order of the list of refusals. Assumes nothing.
-use Rattle.std.proofs.Common.{sym, ◌∙◌}
-use lib.Ieee.{of_bits, round}
-use Rattle.words.specs.Rule.{reading}
-use Rattle.words.specs.Draw.{shorts, draw}
-use Rattle.words.proofs.Short.{ends_same}
-use Rattle.poisson.specs.Poisson.{in_range, poisson, knuth_rule}
+-- `poisson::sample` meets its contract: a float's bits stand for that float. Assumes nothing.
+use Rattle.std.proofs.Common.{◌≡◌, ap, ◌∙◌, subst}
+use Rattle.std.specs.Bool.{passes}
+use lib.Ieee.{Float, binary64, of_bits}
+use lib.Ieee.Bits.{of_bits-to_bits}
+use Rattle.words.specs.Draw.{DrawAllows}
+use Rattle.poisson.specs.Poisson.{poisson}
 use Rattle.poisson.proofs.sample.Goals as goal
 
-pub returns-then-too_long : goal.returns-then-too_long
-unfolding draw poisson
-returns-then-too_long c = simp (sym c.too_long.ensures ∙ c.if-too_long.true)
-
-pub returns-then-exp_lambda-2 : goal.returns-then-exp_lambda-2
-unfolding draw poisson in_range of_bits round
-returns-then-exp_lambda-2 c =
-    c.knuth_method.ensures
-    ∙ simp (sym c.too_long.ensures ∙ c.if-too_long.false, c.if-exp_lambda.true, c.if-exp_lambda-2.true)
-    (sym (ends_same shorts (reading (knuth_rule c.args.exp_lambda) c.args.tape.now)))
-
-pub returns-else-exp_lambda-2 : goal.returns-else-exp_lambda-2
-unfolding draw poisson in_range of_bits round
-returns-else-exp_lambda-2 c = simp (sym c.too_long.ensures ∙ c.if-too_long.false, c.if-exp_lambda.true, c.if-exp_lambda-2.false)
-
-pub returns-else-exp_lambda : goal.returns-else-exp_lambda
-unfolding draw poisson in_range of_bits round
-returns-else-exp_lambda c = simp (sym c.too_long.ensures ∙ c.if-too_long.false, c.if-exp_lambda.false)
+pub returns : goal.returns
+returns c =
+    let a = c.args in
+    let same : of_bits binary64 c.f64_to_bits_with_nan.result ≡ a.exp_lambda =
+    ap (of_bits binary64) c.f64_to_bits_with_nan.ensures ∙ of_bits-to_bits binary64 a.exp_lambda (passes _ c.well_formed.1.0.1) in
+    subst (λ (x : Float). DrawAllows (poisson x) a.tape.now c.sample_bits.result) same c.sample_bits.ensures

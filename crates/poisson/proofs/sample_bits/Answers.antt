@@ -3,31 +3,33 @@ use Rattle.std.proofs.Common.{sym, ◌∙◌, arith}
 use lib.Ieee.{binary64, of_bits}
 use Rattle.words.specs.Rule.{reading}
 use Rattle.words.specs.Draw.{shorts, draw}
-use Rattle.words.proofs.Patterns.{float_of_bits}
+use Rattle.std.proofs.lemmas.Float.{not_nan_f64_bits}
 use Rattle.words.proofs.Short.{ends_same}
 use Rattle.poisson.specs.Poisson.{knuth_rule, poisson}
 use Rattle.poisson.proofs.Range.{bits_inside, bits_below, bits_above}
+use Rattle.poisson.proofs.sample_bits.Goals.{else-exp_lambda-ge-LOWEST-via-then-exp_lambda-ge-LOWEST+else-exp_lambda-le-HIGHEST, else-exp_lambda-ge-LOWEST-via-else-exp_lambda-ge-LOWEST}
 use Rattle.poisson.proofs.sample_bits.Goals as goal
 
 pub returns-then-too_long : goal.returns-then-too_long
 unfolding draw poisson
-returns-then-too_long c = simp (sym c.too_long.ensures ∙ c.if-too_long.true)
+returns-then-too_long c = simp (sym c.if-too_long.ensures)
 
 pub float_from_bits-exp_lambda : goal.float_from_bits-exp_lambda
-float_from_bits-exp_lambda c = float_of_bits _ (omega arith)
+float_from_bits-exp_lambda c = not_nan_f64_bits _ (omega arith)
 
 pub returns-then-exp_lambda-le-HIGHEST : goal.returns-then-exp_lambda-le-HIGHEST
 unfolding draw poisson
 returns-then-exp_lambda-le-HIGHEST c =
     c.knuth_method.ensures
-    ∙ simp (sym c.too_long.ensures ∙ c.if-too_long.false, bits_inside c.args.exp_lambda (omega arith) (omega arith))
+    ∙ simp (sym c.if-too_long.ensures, bits_inside c.args.exp_lambda (omega arith) (omega arith))
     (sym (ends_same shorts (reading (knuth_rule (of_bits binary64 c.args.exp_lambda)) c.args.tape.now)))
 
-pub returns-else-exp_lambda-le-HIGHEST : goal.returns-else-exp_lambda-le-HIGHEST
+pub returns : goal.returns
 unfolding draw poisson
-returns-else-exp_lambda-le-HIGHEST c =
-    simp (sym c.too_long.ensures ∙ c.if-too_long.false, bits_above c.args.exp_lambda (omega arith) (omega arith))
-
-pub returns-else-exp_lambda-ge-LOWEST : goal.returns-else-exp_lambda-ge-LOWEST
-unfolding draw poisson
-returns-else-exp_lambda-ge-LOWEST c = simp (sym c.too_long.ensures ∙ c.if-too_long.false, bits_below c.args.exp_lambda (omega arith))
+returns c =
+    let within = sym c.if-too_long.ensures in
+    elim c.else-exp_lambda-ge-LOWEST.branch [
+      | else-exp_lambda-ge-LOWEST-via-then-exp_lambda-ge-LOWEST+else-exp_lambda-le-HIGHEST w ↦
+          simp (within, bits_above c.args.exp_lambda (omega arith) (omega arith))
+      | else-exp_lambda-ge-LOWEST-via-else-exp_lambda-ge-LOWEST w ↦ simp (within, bits_below c.args.exp_lambda (omega arith))
+    ]

@@ -5,10 +5,10 @@ use Rattle.words.specs.Rule.{more, read, reading}
 use Rattle.search.specs.Search.{search_rule, first_run}
 use Rattle.search.proofs.sample_search.Given as goal
 
-abbrev pub invariant-loop-w : goal.invariant-loop-w
-invariant-loop-w l =
+abbrev pub invariant-loop-d : goal.invariant-loop-d
+invariant-loop-d l =
     (l.d ≤ length l.tape)
-    × (reading (search_rule l.q (2 ^ l.k) l.pi) l.tape ≡ read (search_rule l.q (2 ^ l.k) l.pi) (drop l.d l.tape) (more (first_run l.d)) l.d)
+    × (reading (search_rule l.squared.q (2 ^ l.squared.k) l.squared.pi) l.tape ≡ read (search_rule l.squared.q (2 ^ l.squared.k) l.squared.pi) (drop l.d l.tape) (more (first_run l.d)) l.d)
 
-abbrev pub decreases-loop-w : goal.decreases-loop-w
-decreases-loop-w l = length l.tape - l.d
+abbrev pub decreases-loop-d : goal.decreases-loop-d
+decreases-loop-d l = length l.tape - l.d

@@ -31,11 +31,11 @@ loop-pi-preserved c =
     )
 
 -- what the squarings came to is what the loop holds
-came : (k : ℕ) (pi : Float) (s : Squares) → s ≡ record { k = k; pi = pi } → (k ≡ s.k) × (pi ≡ s.pi)
-came k pi s same = (sym (ap (λ (t : Squares). t.k) same), sym (ap (λ (t : Squares). t.pi) same))
+came : (q : Float) (k : ℕ) (pi : Float) (s : Squares) → s ≡ record { k = k; pi = pi } → (q ≡ q) × (k ≡ s.k) × (pi ≡ s.pi)
+came q k pi s same = (refl, sym (ap (λ (t : Squares). t.k) same), sym (ap (λ (t : Squares). t.pi) same))
 
 pub returns : goal.returns
 unfolding of_bits round
 returns c =
     let l = c.loop-pi in
-    came l.k l.pi (squares c.args.q) (l.invariant.1 ∙ simp c.loop-pi-test.false (squaring_reached (31 - l.k) l.k l.pi))
+    came c.args.q l.k l.pi (squares c.args.q) (l.invariant.1 ∙ simp c.loop-pi-test.false (squaring_reached (31 - l.k) l.k l.pi))

@@ -3,10 +3,11 @@ use Rattle.service.proofs.StrikingFrom.{zero_again, accepted_met, refused_met}
 use Rattle.service.proofs.strike_from.Goals as goal
 
 pub strike_standing-requires : goal.strike_standing-requires
-strike_standing-requires c = zero_again _ _ _ _ c.strike.ensures _ c.in-Left.is
+strike_standing-requires c = zero_again _ _ _ _ c.strike.ensures _ c.in-Ok.is
 
-pub returns-in-Left : goal.returns-in-Left
-returns-in-Left c = accepted_met _ _ _ c.strike.result c.strike.ensures _ _ _ _ _ _ _ c.strike_standing.ensures
+pub returns-in-Ok : goal.returns-in-Ok
+returns-in-Ok c = accepted_met _ _ _ c.strike.result c.strike.ensures _ _ _ _ _ _ _ c.strike_standing.ensures
 
-pub returns-in-Refused : goal.returns-in-Refused
-returns-in-Refused c = refused_met _ _ _ _ c.strike.ensures _ _ _ _ _ _ c.in-Refused.is c.struck_line-length.ensures
+pub returns-in-Err : goal.returns-in-Err
+returns-in-Err c =
+    rw (c.unchanged.ensures.0, c.unchanged.ensures.1) (refused_met _ _ _ _ c.strike.ensures _ _ _ _ _ _ c.in-Err.is c.struck_line.ensures)
