@@ -217,8 +217,8 @@ impl Hypergeometric {
         let mut u = fraction;
         let mut p = self.first;
         let mut x: u64 = 0;
-        // As a `for x in 0..bound` a draw from a kept (60, 24, 7) takes 86.2 instructions, and 82.2 as this: docs/COSTS.md's row of a draw from a
-        // kept set-up is 1.00 of the Rust's.
+        // As a `for x in 0..bound` a draw from a kept (60, 24, 7) takes 86.2 instructions, and 82.2 as this: by as many that row of docs/COSTS.md is
+        // below the Rust's.
         while u > p && x < bound {
             u -= p;
             p = next_p(self.n1, self.n2, self.k, x, p);
