@@ -1,7 +1,7 @@
 -- Laws of a refusal's line. Assumes nothing.
 use mathlib.Core.Path.{◌≡◌}
 use mathlib.Core.List.{List, [], ◌∷◌, ◌++◌, append_assoc}
-use Prim.Native.Nat.{ℕ, ◌+◌, ◌^◌, ◌≤◌, ◌<◌}
+use Prim.Native.Nat.{ℕ, ◌^◌, ◌≤◌, ◌<◌}
 use native.Mathlib.Omega.{arith}
 use lib.ListN.{length, length-append}
 use lib.Seq.{append_snoc}
@@ -9,7 +9,7 @@ use Rattle.writing.specs.Digits.{decimal}
 use Rattle.writing.specs.Writing.{Writes}
 use Rattle.writing.proofs.Writing.{written_next, length_decimal}
 use Rattle.lines.specs.Lines.{line, refused_text, serial_text, used_text, count_text}
-use Rattle.lines.proofs.Lines.{word_next, last_words}
+use Rattle.lines.proofs.Lines.{word_next, last_words, number_length}
 use Rattle.names.specs.Names.{name_of}
 use Rattle.names.proofs.Names.{name_short}
 use Rattle.answer_lines.specs.Answers.{refusal_line}
@@ -21,10 +21,6 @@ serial_digits n h = length_decimal n 10 (omega arith) (omega arith)
 
 pub count_digits : (n : ℕ) → n < 2 ^ 64 → length (decimal n) ≤ 20
 count_digits n h = length_decimal n 20 (omega arith) (omega arith)
-
--- a number and the byte after it
-pub number_length : (n e : ℕ) → length (decimal n ++ (e ∷ [])) ≡ length (decimal n) + 1
-number_length n e = length-append (decimal n) (e ∷ [])
 
 -- how long numbers are, for `grind`
 pub ruleset number_words = (serial_digits, count_digits, number_length)

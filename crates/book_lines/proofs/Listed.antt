@@ -24,9 +24,8 @@ use Rattle.entry.specs.declared.Entry.{Entry}
 use Rattle.layout.specs.declared.Standing.{Standing}
 use Rattle.entry.specs.Entry.{blank}
 use Rattle.layout.specs.Book.{decode, most_bytes, book_too_long, is_none}
-use Rattle.layout.specs.Entries.{entries_from, Lie}
 use Rattle.opening.specs.Calls.{is_damaged_for, booked_for}
-use Rattle.layout.specs.Inner.{walked}
+use Rattle.layout.specs.Inner.{entries_from, Lie, walked}
 use Rattle.entry.proofs.Entries.{Fits}
 use Rattle.layout.proofs.Decoding.{zeros_decode}
 use Rattle.layout.proofs.Positions.{lies_fits}
@@ -36,7 +35,7 @@ use Rattle.writing.specs.Digits.{decimal}
 use Rattle.writing.specs.Writing.{Writes}
 use Rattle.writing.proofs.Writing.{written_next, length_decimal}
 use Rattle.lines.specs.Lines.{line, refused_line}
-use Rattle.lines.proofs.Lines.{word_next, last_words}
+use Rattle.lines.proofs.Lines.{word_next, last_words, number_length}
 use Rattle.book_lines.specs.Listing.{header, entry_line, entry_lines, end_line, listed, listing_refusals, entries_in, listing_of, listing}
 
 -- ---- an entry's line
@@ -67,10 +66,6 @@ pub entry_written : {l m1 m2 m3 m4 o : List ℕ} {x y1 y2 y3 y4 z k : ℕ} (e : 
 unfolding entry_line
 entry_written e ek w1 w2 w3 w4 w5 =
     word_next _ _ _ w1 (word_next _ _ _ (rw ek at w2) (word_next _ _ _ w3 (last_words _ _ (written_next _ _ _ _ _ _ _ _ w4 w5))))
-
--- a number and the byte after it
-pub number_length : (n e : ℕ) → length (decimal n ++ (e ∷ [])) ≡ length (decimal n) + 1
-number_length n e = length-append (decimal n) (e ∷ [])
 
 -- how long a line is, for `grind`
 pub ruleset entry_words = (line_length, number_length)

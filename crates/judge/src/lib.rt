@@ -23,7 +23,8 @@ pub enum Verdict {
     Differs,
 }
 
-// What a case says that the Rust did, by its number; oracle/README.md has the numbers.
+// What a case says that the Rust did, by its number; oracle/README.md has the numbers. (A number and no enum: it is a case file's word, and any may
+// stand there.)
 #[tactic(auto, unfolding(crate::specs::Judging::rust_did))]
 pub fn rust_did(act: u64, count: u64, used: usize) -> Said
     ensures { rules.said result ≡ rust_did act count used }

@@ -8,7 +8,7 @@ use lib.ListN.{length}
 use Rattle.entry.specs.declared.Entry.{Entry}
 use Rattle.entry.specs.Entry.{length_at, entry_at}
 use Rattle.entry.specs.Inner.{HasEntry}
-use Rattle.layout.specs.Entries.{entries_from, Lie}
+use Rattle.layout.specs.Inner.{entries_from, Lie}
 
 pub from_none : (n : ℕ) (b : List ℕ) (at : ℕ) → n ≡ 0 → entries_from n b at ≡ []
 unfolding entries_from

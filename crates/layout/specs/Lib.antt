@@ -2,4 +2,3 @@ pub mod Book
 pub mod Sound
 pub mod Standing
 pub mod Inner
-pub mod Entries

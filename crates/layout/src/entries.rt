@@ -3,7 +3,7 @@
 
 ghost use Rattle.std.specs.Prelude.{◌≡◌};
 ghost use Rattle.std.specs.Iterator.{YieldsFirst, item_count};
-ghost use Rattle.layout.specs.Entries.{entries_from, Lie};
+ghost use Rattle.layout.specs.Inner.{entries_from, Lie};
 
 use crate::next_at;
 use entry::{Entry, entry_at};
@@ -20,7 +20,7 @@ pub struct Entries<'a> {
 impl<'a> Model for Entries<'a> {
     ghost use Rattle.std.specs.Prelude.{List};
     ghost use Rattle.entry.specs.declared.Entry.{Entry};
-    ghost use Rattle.layout.specs.Entries.{entries_from, Lie};
+    ghost use Rattle.layout.specs.Inner.{entries_from, Lie};
 
     ghost Value = { List Entry };
 

@@ -21,6 +21,10 @@ pub last_words : {l m : List ℕ} {i j : ℕ} (w v : List ℕ) → Writes l i ((
 unfolding line
 last_words w v p = rw append_snoc at p
 
+-- a number and the byte that ends it
+pub number_length : (n e : ℕ) → length (decimal n ++ (e ∷ [])) ≡ length (decimal n) + 1
+number_length n e = length-append (decimal n) (e ∷ [])
+
 -- the place after a number and the byte that ends it
 pub number_place : {l m : List ℕ} {i j : ℕ} (n e : ℕ) → Writes l i (decimal n ++ (e ∷ [])) m j → j ≡ i + length (decimal n) + 1
-number_place n e w = omega (arith, w.place, length-append (decimal n) (e ∷ []))
+number_place n e w = omega (arith, w.place, number_length n e)

@@ -8,7 +8,7 @@ use Prim.Native.Nat.{ℕ, zero, suc, ◌+◌, ◌*◌, ◌≤◌, ◌<◌}
 use native.Mathlib.Omega.{arith}
 use lib.ListN.{length, get_or, take, drop, take-append-drop, drop_of_length-le}
 use lib.Seq.{drop-cons}
-use Rattle.layout.specs.Entries.{entries_from, Lie}
+use Rattle.layout.specs.Inner.{entries_from, Lie}
 use borrow.Author.Tests.{le-ltb, ltb-false}
 use Rattle.words.specs.Words.{most_words, too_long}
 use Rattle.words.specs.Outcome.{Outcome, drawn, refused}

@@ -24,7 +24,7 @@ use Rattle.bytes_le.proofs.Numbers.{Bytes}
 use Rattle.draws.specs.Request.{draw_of}
 use Rattle.entry.specs.declared.Entry.{Entry}
 use Rattle.entry.specs.Entry.{blank}
-use Rattle.layout.specs.Entries.{entries_from}
+use Rattle.layout.specs.Inner.{entries_from}
 use Rattle.opening.specs.Calls.{booked, limits}
 use Rattle.layout.specs.Book.{is_none}
 use Rattle.redraws.specs.Redraw.{is_drawn, agrees, lowest, redraw_refusals, Redrawing, naming, redraw_of, redraw}

@@ -34,6 +34,7 @@ fn sample_after_zero(tape: &[u64]) -> Answer
     ensures { paper result ≡ read standard_rule (drop 1 tape.now) (more 64) 1 }
 {
     let mut result: u64 = 64;
+    // Counted by hand: the words used are a part of what is drawn, and a `for` would need to know where the tape ends, which word_at alone says.
     let mut used: usize = 1;
     loop {
         let w = words::word_at(tape, used).ok_or(Refusal::Exhausted)?;

@@ -25,7 +25,7 @@ fn put_digit(out: &mut [u8], at: usize, digit: u64) -> usize
 }
 
 // Writes a number's decimal digits from `at` on, and answers the place after them. By hand: `write!` into lent bytes goes by
-// `std::io`, and the crates below the program stay without it.
+// `std::io`, and the crates that write text stay without it.
 pub fn put_decimal(out: &mut [u8], at: usize, n: u64) -> usize
     requires { at + length (decimal n) ≤ length out.old }
     ensures { Writes out.old at (decimal n) out.new result }
