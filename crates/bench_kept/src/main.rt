@@ -2,18 +2,32 @@
 // bytes, the lowest first. Draw i is over the word at place i, counted round. Writes the sum of the counts.
 #![tactic(auto)]
 
+ghost use Rattle.std.specs.Prelude.{◌≤◌};
+
 use hypergeometric::Hypergeometric;
 
 const MOST_BYTES: usize = 4_096;
 
 const MOST_WORDS: usize = 512;
 
+// The place after `at`, counted round.
+fn next_place(at: usize, words: usize) -> usize
+    requires { at ≤ words }
+    ensures { result ≤ words }
+{
+    if 1 < words - at { at + 1 } else { 0 }
+}
+
+// The place is counted by hand: the tape is lent from it on, so that a draw asks for its length and its first word as every caller's does. Over a part of
+// one word, which an iterator would give, both questions are answered when this is compiled.
 fn draw_round(tape: &[u64], kept: Hypergeometric, draws: u64) -> u64 {
     let mut sum: u64 = 0;
-    for word in tape.iter().cycle().take(draws as usize) {
-        // over one word no draw is refused; a refusal would add 0
-        let answer = hypergeometric::sample_from(&[*word], kept);
+    let mut at = 0;
+    for _ in (0..draws).rev() {
+        // over what is left of the tape no draw is refused; a refusal would add 0
+        let answer = hypergeometric::sample_from(&tape[at..], kept);
         sum = sum.wrapping_add(answer.map_or(0, |draw| draw.count));
+        at = next_place(at, tape.len());
     }
     sum
 }

@@ -100,54 +100,70 @@ module _ (vs b : List ℕ) (end : ℕ) (r : Request) (short : length vs ≤ most
       go (inl h) = absurd (true≢false (sym h.0 ∙ limit_within vs short))
       go (inr h) = last (first_split (parameter_refusals r) (endings shorts (reading_of r vs)) n h.1)
 
--- ---- a fresh delivery, way by way: n is the request's length, and the draw's answer is that over the tape as it was lent
+-- ---- a fresh delivery, way by way
 
-module _ (ws b : List ℕ) (st : Standing) (r : Request) (stands : IsOpen ws b st) (n : ℕ) (en : n ≡ length_of r) where
+module _ (ws b : List ℕ) (st : Standing) (r : Request) (short : length ws ≤ most_words) where
   -- the words from the book's place on
   abbrev vs : List ℕ
   vs = drop st.place ws
 
   left_short : length vs ≤ most_words
-  left_short = omega (arith, length-drop st.place ws, open_tape ws b stands.0)
+  left_short = omega (arith, length-drop st.place ws)
 
-  lent : (x : Outcome ℕ) → x ≡ draw_of r (take (length ws - st.place) (drop st.place ws)) → draw_of r vs ≡ x
-  lent x e = sym (e ∙ ap (draw_of r) (lent_from ws st.place))
+  pub fresh_refused : (k m : ℕ) → refused k ≡ draw_of r (drop st.place ws) → m ≡ cond (is_full b st.end r && is_short k) 15 k
+      → call (refused m) b ≡ fresh_delivery ws b st r
+  unfolding fresh_delivery
+  fresh_refused k m e em =
+      sym
+      (ap (λ (x : Outcome Booking). delivering x b st r) (drew_refused vs b st.end r left_short k (sym e))
+      ∙ ap (λ (x : ℕ). call (refused x) b) (sym em))
+
+  pub fresh_full : (d : Draw) → told d ≡ draw_of r (drop st.place ws) → is_full b st.end r ≡ true → call (refused 15) b ≡ fresh_delivery ws b st r
+  unfolding fresh_delivery
+  fresh_full d e f = sym (ap (λ (x : Outcome Booking). delivering x b st r) (drew_full vs b st.end r left_short d.count d.used (sym e) f))
+
+  -- booked as the entry x
+  pub fresh_booked : (d : Draw) (x : Entry) (b' : List ℕ) → told d ≡ draw_of r (drop st.place ws) → is_full b st.end r ≡ false
+      → x ≡ booking r (st.entries + 1) st.place d.used d.count → b' ≡ sets b st.end (entry_bytes x)
+      → call (drawn (fresh d.count) d.used) b' ≡ fresh_delivery ws b st r
+  unfolding fresh_delivery
+  fresh_booked d x b' e f ex eb =
+      ap (call (drawn (fresh d.count) d.used)) (eb ∙ ap (λ (y : Entry). sets b st.end (entry_bytes y)) ex)
+      ∙ sym (ap (λ (y : Outcome Booking). delivering y b st r) (drew_room vs b st.end r left_short d.count d.used (sym e) f))
+
+-- the same as the code has it: the book stands open, n is the request's length, and the draw's answer is that over the tape as it was lent
+
+module _ (ws b : List ℕ) (st : Standing) (r : Request) (stands : IsOpen ws b st) (n : ℕ) (en : n ≡ length_of r) where
+  few : length ws ≤ most_words
+  few = open_tape ws b stands.0
+
+  lent : (x : Outcome ℕ) → x ≡ draw_of r (take (length ws - st.place) (drop st.place ws)) → x ≡ draw_of r (drop st.place ws)
+  lent x e = e ∙ ap (draw_of r) (lent_from ws st.place)
 
   full : is_full b st.end r ≡ ltb (length b - st.end) n
   unfolding is_full
   full = ap (ltb (length b - st.end)) (sym en)
 
-  pub fresh_refused : (k m : ℕ) → refused k ≡ draw_of r (take (length ws - st.place) (drop st.place ws))
+  pub lent_refused : (k m : ℕ) → refused k ≡ draw_of r (take (length ws - st.place) (drop st.place ws))
       → m ≡ cond (ltb (length b - st.end) n && is_short k) 15 k → call (refused m) b ≡ fresh_delivery ws b st r
-  unfolding fresh_delivery
-  fresh_refused k m e em =
-      sym
-      (ap (λ (x : Outcome Booking). delivering x b st r) (drew_refused vs b st.end r left_short k (lent (refused k) e))
-      ∙ ap (λ (x : ℕ). call (refused x) b) (sym (em ∙ ap (λ (t : Bool). cond (t && is_short k) 15 k) (sym full))))
+  lent_refused k m e em =
+      fresh_refused ws b st r few k m (lent (refused k) e) (em ∙ ap (λ (t : Bool). cond (t && is_short k) 15 k) (sym full))
 
   module _ (d : Draw) (e : told d ≡ draw_of r (take (length ws - st.place) (drop st.place ws))) where
-    pub fresh_full : length b - st.end < n → call (refused 15) b ≡ fresh_delivery ws b st r
-    unfolding fresh_delivery
-    fresh_full f =
-        sym
-        (ap (λ (x : Outcome Booking). delivering x b st r)
-        (drew_full vs b st.end r left_short d.count d.used (lent (told d) e) (full ∙ lt-ltb (length b - st.end) n f)))
+    pub lent_full : length b - st.end < n → call (refused 15) b ≡ fresh_delivery ws b st r
+    lent_full f = fresh_full ws b st r few d (lent (told d) e) (full ∙ lt-ltb (length b - st.end) n f)
 
     -- booked as the entry x
-    pub fresh_booked : n ≤ length b - st.end → (x : Entry) → x ≡ booking r (st.entries + 1) st.place d.used d.count
+    pub lent_booked : n ≤ length b - st.end → (x : Entry) → x ≡ booking r (st.entries + 1) st.place d.used d.count
         → (c : List ℕ) → c ≡ sets b st.end (entry_bytes x) → call (drawn (fresh d.count) d.used) c ≡ fresh_delivery ws b st r
-    unfolding fresh_delivery
-    fresh_booked f x ex c ec =
-        ap (call (drawn (fresh d.count) d.used)) (ec ∙ ap (λ (y : Entry). sets b st.end (entry_bytes y)) ex)
-        ∙ sym
-        (ap (λ (y : Outcome Booking). delivering y b st r)
-        (drew_room vs b st.end r left_short d.count d.used (lent (told d) e) (full ∙ le-ltb (length b - st.end) n f)))
+    lent_booked f x ex c ec =
+        fresh_booked ws b st r few d x c (lent (told d) e) (full ∙ le-ltb (length b - st.end) n f) ex ec
 
 -- the entry of a request is as long as the request says
 pub entry_size : (x : Entry) (r : Request) (s p u c : ℕ) → x ≡ booking r s p u c → length_of x.request ≡ length_of r
 entry_size x r s p u c e = ap (λ (y : Entry). length_of y.request) e
 
-pub ruleset freshes = (fresh_refused, fresh_full, fresh_booked, entry_size)
+pub ruleset freshes = (lent_refused, lent_full, lent_booked, entry_size)
 
 -- ---- an answer whose refusal was mapped by Q
 

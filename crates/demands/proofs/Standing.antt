@@ -14,7 +14,7 @@ use Rattle.words.specs.Outcome.{Outcome, drawn, refused}
 use Rattle.words.specs.Inner as words
 use Rattle.words.specs.Refusals.{Condition, ◌on◌, First, NoneHolds}
 use Rattle.words.specs.Draw.{shorts, endings}
-use Rattle.words.proofs.Tape.{limit_within, lent_from}
+use Rattle.words.proofs.Tape.{limit_within}
 use Rattle.words.proofs.Exactly.{none_before}
 use Rattle.words.proofs.Drawing.{accepted_exactly, accepted_reading}
 use Rattle.bytes_le.specs.Zeros.{wiped}
@@ -35,7 +35,6 @@ use Rattle.layout.specs.Standing.{standing}
 use Rattle.book.specs.Deliver.{Booking, fresh, copy, is_next, is_ahead, booked_at, is_reused, is_full, when_next, fresh_refusals, deliver_refusals, freshly, copied, delivery, delivering, deliver_to, deliver}
 use Rattle.book.specs.Inner.{fresh_delivery}
 use Rattle.book.specs.Strike.{strike_refusals, left_by, striking, strike_in, strike}
-use Rattle.opening.specs.Inner.{IsOpen}
 use Rattle.opening.proofs.Opening.{opens}
 use Rattle.book.proofs.Fresh.{fresh_booked}
 use Rattle.book.proofs.Delivering as book
@@ -164,12 +163,9 @@ module _ (ws : List ℕ) (n : ℕ) (within : length ws ≤ most_words) (small : 
     -- and it is what its delivery with the serial that is next books
     pub deliver_fresh : deliver ws b (length es + 1) r ≡ call (drawn (fresh c) u) (encode n (es ++ (new ∷ [])))
     deliver_fresh =
-        let stands : IsOpen ws b (standing es) = (found.0, ap standing found.1) in
-        let lent : drawn c u ≡ draw_of r (take (length ws - used_all es) vs) = sym drew ∙ ap (draw_of r) (sym (lent_from ws (used_all es))) in
-        let left : length_of r ≤ length b - length_all es = omega (arith, length_encode n es st.room, room) in
         sym (book.deliver_fresh ws b (length es + 1) r found.0 (ap (λ (l : List Entry). length l + 1) (sym found.1)))
         ∙ ap (λ (l : List Entry). fresh_delivery ws b (standing l) r) found.1
-        ∙ sym (fresh_booked ws b (standing es) r stands (length_of r) refl (words.drew c u) lent left new refl _ refl)
+        ∙ sym (fresh_booked ws b (standing es) r within (words.drew c u) new _ (sym drew) ((room_left r).1 room) refl refl)
         ∙ ap (call (drawn (fresh c) u)) (append_encode n es new room)
 
   -- What a delivery can do: refuse by the condition that holds first, tell again what the entry with its serial and request booked, or

@@ -217,7 +217,7 @@ impl Hypergeometric {
         let mut u = fraction;
         let mut p = self.first;
         let mut x: u64 = 0;
-        // As a `for x in 0..bound` a draw from a kept (60, 24, 7) takes 4.0 instructions more: by as many that row of docs/COSTS.md is below the Rust's.
+        // As a `for x in 0..bound` a draw from a kept (60, 24, 7) takes 4.0 instructions more: that row of docs/COSTS.md would be above the Rust's.
         while u > p && x < bound {
             u -= p;
             p = next_p(self.n1, self.n2, self.k, x, p);

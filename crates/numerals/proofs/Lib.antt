@@ -1,3 +1,4 @@
 pub mod Reading
 pub mod Rounding
 pub mod Written
+pub mod Finding

@@ -2,7 +2,6 @@
 use crate::failure::Failure;
 use crate::store::BookFile;
 use answer_lines::ANSWER_BYTES;
-use arrayvec::ArrayVec;
 use std::fs::Files;
 use std::io::Read;
 
@@ -12,11 +11,34 @@ const LINE_BYTES: usize = 257;
 
 const CHUNK_BYTES: usize = 4096;
 
-// The line at hand: its number, and what is kept of its bytes.
+// The line at hand: its number, and how many of its bytes are kept, at the front. (An array and a length, and no `ArrayVec`: of the kit's crates this
+// stands on std alone.)
 #[derive(Drop)]
 struct Line {
     number: u64,
-    bytes: ArrayVec<u8, LINE_BYTES>,
+    length: usize,
+    bytes: [u8; LINE_BYTES],
+}
+
+impl Line {
+    // What is kept of it. Its length is never more than there is room for.
+    fn kept(&self) -> &[u8] {
+        &self.bytes[..self.length.min(LINE_BYTES)]
+    }
+
+    // Keeps a byte, where there is room.
+    fn keep(&mut self, byte: u8) {
+        if let Some(room) = self.bytes.get_mut(self.length) {
+            *room = byte;
+            self.length += 1;
+        }
+    }
+
+    // The line after it.
+    fn go_on(&mut self) {
+        self.number = self.number.wrapping_add(1);
+        self.length = 0;
+    }
 }
 
 // What lines are answered over: the tape, and the book with its file.
@@ -32,17 +54,15 @@ impl<R: Files + Print> Service<'_, '_, R> {
     // Answers a line. What changed the book is on the disk before the answer is written.
     fn answer(&mut self, line: &Line) -> Result<(), Failure> {
         let mut out = [0u8; ANSWER_BYTES];
-        let served = service::serve(
-            self.tape,
-            self.book,
-            line.number,
-            line.bytes.as_slice(),
-            &mut out,
-        );
+        let served = service::serve(self.tape, self.book, line.number, line.kept(), &mut out);
         if served.changed {
             self.file
                 .replace(self.book)
                 .map_err(|_| Failure::Unwritten)?;
+        }
+        // a line that is passed over has no answer, and nothing is written
+        if served.length == 0 {
+            return Ok(());
         }
         self.rt
             .write_all(&out[..served.length])
@@ -52,12 +72,10 @@ impl<R: Files + Print> Service<'_, '_, R> {
     // Takes the bytes that have come: a newline ends the line at hand, which is answered.
     fn take_bytes(&mut self, line: &mut Line, bytes: &[u8]) -> Result<(), Failure> {
         for byte in bytes {
-            // what has no room is not kept
-            let _ = line.bytes.try_push(*byte);
+            line.keep(*byte);
             if *byte == b'\n' {
                 self.answer(line)?;
-                line.number = line.number.wrapping_add(1);
-                line.bytes.clear();
+                line.go_on();
             }
         }
         Ok(())
@@ -68,13 +86,14 @@ impl<R: Files + Print> Service<'_, '_, R> {
     pub(crate) fn answer_all<I: Read>(&mut self, input: &mut I) -> Result<(), Failure> {
         let mut line = Line {
             number: 1,
-            bytes: ArrayVec::new(),
+            length: 0,
+            bytes: [0; LINE_BYTES],
         };
         let mut chunk = [0u8; CHUNK_BYTES];
         for _ in 0..u64::MAX {
             let n = input.read(&mut chunk).map_err(|_| Failure::UnreadInput)?;
             if n == 0 {
-                return if line.bytes.is_empty() {
+                return if line.length == 0 {
                     Ok(())
                 } else {
                     self.answer(&line)

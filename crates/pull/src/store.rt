@@ -1,4 +1,6 @@
 // The book's file: read whole, and replaced whole. A kill at any moment leaves the old file or the new one.
+ghost use Rattle.std.specs.Prelude.{◌≤◌, length, IfOk};
+
 use crate::failure::Failure;
 use bytes_le::all_zero;
 use input::fill;
@@ -102,7 +104,9 @@ impl<'a, R: Files> BookFile<'a, R> {
 
     // Reads the book's file whole, or makes one of zeros where it is missing. `room` holds zeros before. A file with no byte beside a next
     // file that is a whole empty book is one whose making was cut short, and is finished here.
-    pub(crate) fn load<'b>(&self, room: &'b mut [u8; READ_BYTES]) -> Result<&'b mut [u8], Failure> {
+    pub(crate) fn load<'b>(&self, room: &'b mut [u8; READ_BYTES]) -> Result<&'b mut [u8], Failure>
+        ensures { IfOk result (λ book. length book.now ≤ length room.old) }
+    {
         let mut n = match File::open(self.rt, self.path) {
             Ok(mut file) => fill(&mut file, room).map_err(|_| Failure::UnreadBook)?,
             Err(e) if e.kind() == ErrorKind::NotFound => {

@@ -49,7 +49,9 @@ fn open<R: Env + Files>(rt: &R) -> Option<R::File> {
 }
 
 // Reads the tape, which lies at the front of `room` then.
-pub(crate) fn load<'a, R: Env + Files>(rt: &R, room: &'a mut [u64]) -> Result<&'a [u64], Failure> {
+pub(crate) fn load<'a, R: Env + Files>(rt: &R, room: &'a mut [u64]) -> Result<&'a [u64], Failure>
+    ensures { IfOk result (λ tape. length tape.now ≤ length room.old) }
+{
     let mut file = open(rt).ok_or(Failure::UnreadTape)?;
     let words = take_all(&mut file, room)?;
     Ok(&room[..words])

@@ -1,6 +1,6 @@
 -- Laws of a line's end: what is left of a line when a newline, and before it a carriage return, is taken off its end. Assumes nothing.
-use mathlib.Core.Path.{◌≡◌, refl, ap, ◌∙◌}
-use mathlib.Core.Bool.{true, false, and-false}
+use mathlib.Core.Path.{◌≡◌, refl, sym, ap, ◌∙◌}
+use mathlib.Core.Bool.{Bool, true, false, ◌||◌, and-false, true≢false}
 use mathlib.Core.Logic.{◌⊎◌, inl, inr, ⊎_elim}
 use mathlib.Core.List.{List, [], ◌∷◌, ◌++◌, append_assoc}
 use Prim.Native.Nat.{ℕ, ◌+◌, ◌<◌}
@@ -59,6 +59,28 @@ found_nowhere : (s : ℕ) (l : List ℕ) → list_any (λ y. eqb y s) l ≡ fals
 found_nowhere s [] e = tt
 found_nowhere s (x ∷ xs) e =
     ⊎_elim (λ h. let g = rw h at e in cc) (λ h. rw h (found_nowhere s xs (rw h at e))) (cases_Bool (eqb x s))
+
+-- a test for either of two bytes finds one of them, or neither; a and b are the two tests of a byte, x, y and z those of the bytes after it
+one_of : (a b x y z : Bool) → (z ≡ true → (x ≡ true) ⊎ (y ≡ true)) → ((a || b) || z) ≡ true → ((a || x) ≡ true) ⊎ ((b || y) ≡ true)
+one_of true b x y z f e = inl refl
+one_of false true x y z f e = inr refl
+one_of false false x y z f e = f e
+
+none_of : (a b x y z : Bool) → (z ≡ false → (x ≡ false) × (y ≡ false)) → ((a || b) || z) ≡ false → ((a || x) ≡ false) × ((b || y) ≡ false)
+none_of true b x y z f e = absurd (true≢false e)
+none_of false true x y z f e = absurd (true≢false e)
+none_of false false x y z f e = f e
+
+either_found : (s r : ℕ) (l : List ℕ) → list_any (λ y. eqb y s || eqb y r) l ≡ true → (list_any (λ y. eqb y s) l ≡ true) ⊎ (list_any (λ y. eqb y r) l ≡ true)
+either_found s r [] e = absurd (true≢false (sym e))
+either_found s r (x ∷ xs) e =
+    one_of (eqb x s) (eqb x r) (list_any (λ y. eqb y s) xs) (list_any (λ y. eqb y r) xs) (list_any (λ y. eqb y s || eqb y r) xs) (either_found s r xs) e
+
+neither_found : (s r : ℕ) (l : List ℕ) → list_any (λ y. eqb y s || eqb y r) l ≡ false
+    → (list_any (λ y. eqb y s) l ≡ false) × (list_any (λ y. eqb y r) l ≡ false)
+neither_found s r [] e = (refl, refl)
+neither_found s r (x ∷ xs) e =
+    none_of (eqb x s) (eqb x r) (list_any (λ y. eqb y s) xs) (list_any (λ y. eqb y r) xs) (list_any (λ y. eqb y s || eqb y r) xs) (neither_found s r xs) e
 
 -- ---- what is left of a line
 
@@ -123,3 +145,13 @@ module _ (l b : List ℕ) (o : LeftOf l b) where
     text_left a =
         let r = found_nowhere carriage_return b a in
         ⊎_elim (λ p. rw p.0 (read_newline b lacks_newline r)) (λ e. rw e (read_return b lacks_newline r [] tt refl)) o
+
+  -- the two tests at once
+  pub byte_left : list_any (λ y. eqb y newline || eqb y carriage_return) b ≡ true → read_line l ≡ None
+  byte_left a =
+      ⊎_elim (λ n. newline_left n)
+      (λ r. ⊎_elim (λ n. newline_left n) (λ n. return_left n r) (cases_Bool (list_any (λ y. eqb y newline) b)))
+      (either_found newline carriage_return b a)
+
+  pub bare_left : list_any (λ y. eqb y newline || eqb y carriage_return) b ≡ false → read_line l ≡ read_text b
+  bare_left a = let f = neither_found newline carriage_return b a in text_left f.0 f.1

@@ -1,3 +1,4 @@
 pub mod Whole
 pub mod Ending
 pub mod Texts
+pub mod Places

@@ -150,7 +150,11 @@ pub fn read(line: &[u8]) -> Option<Line>
 {
     let ended = line.strip_suffix(&[NEWLINE])?;
     let bare = ended.strip_suffix(&[CARRIAGE_RETURN]).unwrap_or(ended);
-    if bare.contains(&NEWLINE) || bare.contains(&CARRIAGE_RETURN) {
+    // In one pass, and not by `contains` for each: most lines are short, and a call of it costs more than an empty line or a comment does.
+    if bare
+        .iter()
+        .any(|byte| *byte == NEWLINE || *byte == CARRIAGE_RETURN)
+    {
         return None;
     }
     text(bare)

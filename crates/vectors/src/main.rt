@@ -49,8 +49,10 @@ fn draw_all<R: Read, P: Print>(reader: &mut R, tally: &mut Tally<P>) -> Result<(
 
 fn main(rt: HostRuntime) {
     let mut tally = Tally::new(&rt);
-    let _ = match draw_all(&mut rt.stdin(), &mut tally) {
+    match draw_all(&mut rt.stdin(), &mut tally) {
         Ok(()) => tally.report(),
-        Err(Unread) => println!(rt; "unread case"),
-    };
+        Err(Unread) => {
+            let _ = println!(rt; "unread case");
+        }
+    }
 }

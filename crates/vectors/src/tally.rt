@@ -3,7 +3,7 @@ use crate::cases::Case;
 use crate::compare::compare;
 use judge::{Said, Verdict, as_marked};
 use kinds::Request;
-use std::{fmt, io};
+use std::fmt;
 use words::Answer;
 
 // Every entry's number is below this.
@@ -167,20 +167,20 @@ impl<'a, P: Print> Tally<'a, P> {
         }
     }
 
-    // Writes all the counts, a line for each group and each entry.
-    pub(crate) fn report(&self) -> io::Result<()> {
-        println!(self.rt; "hypergeometric {}", self.hypergeometric)?;
-        println!(self.rt; "kept {}", self.kept)?;
-        println!(self.rt; "poisson {}", self.poisson)?;
-        println!(self.rt; "geometric {}", self.geometric)?;
-        println!(self.rt; "standard {}", self.standard)?;
-        println!(self.rt; "fraction {}", self.fractions)?;
+    // Writes all the counts, a line for each group and each entry. Where one can't be written, those after it are still tried.
+    pub(crate) fn report(&self) {
+        let _ = println!(self.rt; "hypergeometric {}", self.hypergeometric);
+        let _ = println!(self.rt; "kept {}", self.kept);
+        let _ = println!(self.rt; "poisson {}", self.poisson);
+        let _ = println!(self.rt; "geometric {}", self.geometric);
+        let _ = println!(self.rt; "standard {}", self.standard);
+        let _ = println!(self.rt; "fraction {}", self.fractions);
         for entry in [1, 4, 5, 9, 10] {
             let listed = self.entries[entry];
-            println!(self.rt; "entry {entry} {listed}")?;
+            let _ = println!(self.rt; "entry {entry} {listed}");
         }
-        println!(self.rt; "cases {}", self.cases)?;
-        println!(self.rt; "others {}", self.others)
+        let _ = println!(self.rt; "cases {}", self.cases);
+        let _ = println!(self.rt; "others {}", self.others);
     }
 }
 
