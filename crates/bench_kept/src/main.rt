@@ -18,8 +18,9 @@ fn next_place(at: usize, words: usize) -> usize
     if 1 < words - at { at + 1 } else { 0 }
 }
 
-// The place is counted by hand: the tape is lent from it on, so that a draw asks for its length and its first word as every caller's does. Over a part of
-// one word, which an iterator would give, both questions are answered when this is compiled.
+// The place is counted by hand: the tape is lent from it on, so that a draw asks for its length and its first word as every caller's does. Over a
+// part of one word, which an iterator would give, both questions are answered when this is compiled. The draws are counted down, which is an
+// instruction less a turn.
 fn draw_round(tape: &[u64], kept: Hypergeometric, draws: u64) -> u64 {
     let mut sum: u64 = 0;
     let mut at = 0;

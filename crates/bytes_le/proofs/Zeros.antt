@@ -2,12 +2,14 @@
 use mathlib.Core.Path.{◌≡◌, refl, sym, ap, ◌∙◌}
 use mathlib.Core.Bool.{Bool, true, false, ◌&&◌}
 use mathlib.Core.List.{List, [], ◌∷◌, ◌++◌, append-nil, append_assoc}
-use Prim.Native.Nat.{ℕ, zero, suc, ◌+◌, ◌-◌, ◌≤◌}
+use Prim.Native.Nat.{ℕ, zero, suc, ◌+◌, ◌-◌, ◌<◌, ◌≤◌}
+use native.Mathlib.Numerals.{add-one}
 use native.Mathlib.Omega.{arith}
 use borrow.Rule.Slice.PartMut.{put_mid}
 use lib.Dec.{eqb, eqb-suc-zero}
-use lib.ListN.{drop, take, length, replicate, take-append-drop}
-use lib.Seq.{drop-drop}
+use lib.ListN.{get_or, drop, take, length, replicate, drop_of_length-le, take-append-drop}
+use lib.Seq.{drop-drop, drop-cons}
+use borrow.Author.Tests.{ne_eqb}
 use Rattle.std.specs.List.{list_all}
 use Rattle.bytes_le.specs.Zeros.{all_zero, wiped}
 
@@ -25,7 +27,24 @@ are_zeros (suc x ∷ xs) e =
     let z : ◌≡◌ {A = ℕ} 0 1 = cc in
     absurd (omega arith)
 
--- the test as the code makes it
+-- ---- a turn of the loop that tests
+
+module _ (l : List ℕ) (i : ℕ) where
+  first_tested : i < length l → all_zero (drop i l) ≡ eqb (get_or l i 0) 0 && all_zero (drop (suc i) l)
+  unfolding all_zero
+  first_tested h = ap all_zero (drop-cons l i 0 h)
+
+  pub zero_yes : i < length l → get_or l i 0 ≡ 0 → all_zero (drop i l) ≡ all_zero (drop (i + 1) l)
+  zero_yes h e = rw (first_tested h, e, add-one)
+
+  pub zero_no : i < length l → (get_or l i 0 ≡ 0 → ⊥) → all_zero (drop i l) ≡ false
+  zero_no h e = rw (first_tested h, ne_eqb (get_or l i 0) 0 e)
+
+  pub zero_all : length l ≤ i → all_zero (drop i l) ≡ true
+  unfolding all_zero
+  zero_all h = rw (drop_of_length-le l h)
+
+-- the test of every byte is the definition's
 pub each_zero : (l : List ℕ) → list_all (λ x. eqb x 0) l ≡ all_zero l
 unfolding all_zero
 each_zero [] = refl

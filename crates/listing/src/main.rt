@@ -6,7 +6,8 @@ use book_lines::{LISTING_BYTES, listing};
 // A byte more than a book may have is enough to refuse it.
 const READ_BYTES: usize = 65_536 + 1;
 
-// Writes the listing of these bytes. (By a function of its own: in `main` the room for it would be zeroed before the book is read, and once more after.)
+// Writes the listing of these bytes. (By a function of its own: in `main` the room for it would be zeroed before the book is read, and once more
+// after.)
 fn list(rt: &impl Print, book: &[u8]) {
     let mut out = [0u8; LISTING_BYTES];
     let n = listing(book, &mut out);

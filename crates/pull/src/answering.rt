@@ -1,4 +1,6 @@
 // The lines of standard input, each answered as soon as it has come.
+ghost use Rattle.std.specs.Prelude.{◌≤◌};
+
 use crate::failure::Failure;
 use crate::store::BookFile;
 use answer_lines::ANSWER_BYTES;
@@ -18,12 +20,13 @@ struct Line {
     number: u64,
     length: usize,
     bytes: [u8; LINE_BYTES],
+    ghost within: { length ≤ 257 },
 }
 
 impl Line {
-    // What is kept of it. Its length is never more than there is room for.
+    // What is kept of it.
     fn kept(&self) -> &[u8] {
-        &self.bytes[..self.length.min(LINE_BYTES)]
+        &self.bytes[..self.length]
     }
 
     // Keeps a byte, where there is room.
